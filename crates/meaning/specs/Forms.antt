@@ -1,0 +1,204 @@
+-- The forms of a field, and the table of letters (document 01, 'Lines'). Assumes nothing.
+use Prim.Native.Nat.{ℕ, zero, suc, _/_, _%_}
+use mathlib.Core.Bool.{Bool, true, false, cond, _&&_, _||_}
+use mathlib.Core.List.{List, [], _∷_}
+use mathlib.Core.Option.{Option, some, none}
+use lib.Dec.{leb, ltb, eqb}
+use lib.ListN.{length, getD}
+use Rattle.tables.specs.Count.{every}
+use Rattle.meaning.specs.Text.{bytes, word, decimal, same, placed, place}
+use Rattle.meaning.specs.Fields.{within, isDigit, isCapital}
+
+-- ---- the forms of a field
+
+pub data Form : Type 0 where
+  -- a number from 1 to this one
+  upTo : ℕ → Form
+  -- attribute × 100 + value, each 1 to 99
+  code : Form
+  -- a real calendar date from 2000 to 2099, as eight digits
+  day : Form
+  -- so many capital letters
+  letters : ℕ → Form
+  -- one of these words
+  oneOf : List (List ℕ) → Form
+  -- empty, or of that form
+  optional : Form → Form
+
+-- decimal digits without leading zeros
+unfoldable pub isNumber : List ℕ → Bool
+unfolding every
+isNumber f = ltb 48 (getD f 0 0) && every isDigit f
+
+abbrev pub isCode : ℕ → Bool
+isCode n = within 1 99 (n / 100) && within 1 99 (n % 100)
+
+-- January's length stands at 1
+abbrev pub months : List ℕ
+months = 0 ∷ 31 ∷ 28 ∷ 31 ∷ 30 ∷ 31 ∷ 30 ∷ 31 ∷ 31 ∷ 30 ∷ 31 ∷ 30 ∷ 31 ∷ []
+
+-- a year is leap when 4 divides it
+abbrev pub monthLength : ℕ → ℕ → ℕ
+monthLength year month = cond (eqb month 2 && eqb (year % 4) 0) 29 (getD months month 0)
+
+abbrev pub isDate : ℕ → ℕ → ℕ → Bool
+isDate year month d = within 2000 2099 year && (within 1 12 month && within 1 (monthLength year month) d)
+
+-- year × 10000 + month × 100 + day
+abbrev pub isDay : ℕ → Bool
+isDay n = isDate (n / 10000) (n / 100 % 100) (n % 100)
+
+-- whether a number is that of k capital letters
+abbrev pub isWord : ℕ → ℕ → Bool
+isWord zero n = eqb n 0
+isWord (suc k) n = isCapital (n % 256) && isWord k (n / 256)
+
+-- the number n, if the test passed
+abbrev pub given : Bool → ℕ → Option ℕ
+given true n = some n
+given false n = none
+
+-- a field's decimal number, if it passes the test
+abbrev pub numbered : (ℕ → Bool) → List ℕ → Option ℕ
+numbered p f = given (isNumber f && p (decimal f)) (decimal f)
+
+-- the number that a field of that form gives: of free letters their word's number, of a choice its place in the list, of an empty field 0
+unfoldable pub read : Form → List ℕ → Option ℕ
+unfolding isNumber every
+read (upTo n) f = numbered (within 1 n) f
+read code f = numbered isCode f
+read day f = given (eqb (length f) 8 && isNumber f && isDay (decimal f)) (decimal f)
+read (letters n) f = given (eqb (length f) n && every isCapital f) (word f)
+read (oneOf ws) f = given (leb (placed f ws) (length ws)) (placed f ws)
+read (optional φ) f = cond (eqb (length f) 0) (some 0) (read φ f)
+
+-- the numbers that fields of that form give: the range of the form
+unfoldable pub holds : Form → ℕ → Bool
+holds (upTo m) n = within 1 m n
+holds code n = isCode n
+holds day n = isDay n
+holds (letters k) n = isWord k n
+holds (oneOf ws) n = within 1 (length ws) n
+holds (optional φ) n = eqb n 0 || holds φ n
+
+-- each number by its form, and as many numbers as forms
+unfoldable pub holdsAll : List Form → List ℕ → Bool
+unfolding holds
+holdsAll [] [] = true
+holdsAll [] (n ∷ ns) = false
+holdsAll (φ ∷ φs) [] = false
+holdsAll (φ ∷ φs) (n ∷ ns) = holds φ n && holdsAll φs ns
+
+-- ---- the forms of the table's fields
+
+abbrev pub csdForm : Form
+csdForm = upTo 8
+
+abbrev pub typeForm : Form
+typeForm = upTo 99
+
+-- 1 settlement instruction, 2 settlement restriction
+abbrev pub objectForm : Form
+objectForm = upTo 2
+
+-- 1 rejection, 2 CSD validation hold, 3 party hold
+abbrev pub processingForm : Form
+processingForm = upTo 3
+
+abbrev pub sequenceForm : Form
+sequenceForm = upTo 99
+
+-- positive, negative
+abbrev pub signForm : Form
+signForm = oneOf (bytes "P" ∷ bytes "N" ∷ [])
+
+-- the sum of the weights of criteria 0 to 9
+abbrev pub criteriaForm : Form
+criteriaForm = upTo 1023
+
+-- party, account, security
+abbrev pub kindForm : Form
+kindForm = oneOf (bytes "P" ∷ bytes "A" ∷ bytes "S" ∷ [])
+
+-- of a party, an account or a security
+abbrev pub numberForm : Form
+numberForm = upTo 999999
+
+-- 1 CSD, 2 CSD participant, 3 other
+abbrev pub partyTypeForm : Form
+partyTypeForm = upTo 3
+
+abbrev pub movementForm : Form
+movementForm = oneOf (bytes "DELI" ∷ bytes "RECE" ∷ [])
+
+abbrev pub paymentForm : Form
+paymentForm = oneOf (bytes "APMT" ∷ bytes "FREE" ∷ [])
+
+abbrev pub transactionForm : Form
+transactionForm = letters 4
+
+abbrev pub currencyForm : Form
+currencyForm = letters 3
+
+-- the ten values of a row: criteria 0 to 9
+abbrev pub tenValues : List Form
+tenValues =
+    optional partyTypeForm
+    ∷ optional movementForm
+    ∷ optional paymentForm
+    ∷ optional transactionForm
+    ∷ optional numberForm
+    ∷ optional numberForm
+    ∷ optional code
+    ∷ optional code
+    ∷ optional code
+    ∷ optional currencyForm
+    ∷ []
+
+-- ---- the table of letters
+
+pub data Letter : Type 0 where
+  letterT letterE letterR letterO letterD letterM letterN letterA letterZ letterQ : Letter
+
+-- the letters in the table's order
+abbrev pub letterAt : ℕ → Option Letter
+letterAt n =
+    getD
+    (some letterT ∷ some letterE ∷ some letterR ∷ some letterO ∷ some letterD ∷ some letterM ∷ some letterN ∷ some letterA
+    ∷ some letterZ ∷ some letterQ ∷ [])
+    n none
+
+abbrev pub lettersText : List ℕ
+lettersText = bytes "TERODMNAZQ"
+
+-- the place in the table of a field that is one of its letters; 10 for any other
+abbrev pub letterPlace : List ℕ → ℕ
+letterPlace f = cond (eqb (length f) 1) (place (getD f 0 0) lettersText) 10
+
+abbrev pub letterOf : List ℕ → Option Letter
+letterOf f = letterAt (letterPlace f)
+
+-- the fields after the letter
+unfoldable pub formsOf : Letter → List Form
+formsOf letterT = csdForm ∷ day ∷ typeForm ∷ objectForm ∷ processingForm ∷ day ∷ day ∷ []
+formsOf letterE = csdForm ∷ day ∷ typeForm ∷ objectForm ∷ day ∷ []
+formsOf letterR = csdForm ∷ day ∷ typeForm ∷ objectForm ∷ sequenceForm ∷ signForm ∷ criteriaForm ∷ day ∷ day ∷ []
+formsOf letterO = csdForm ∷ day ∷ typeForm ∷ objectForm ∷ sequenceForm ∷ sequenceForm ∷ []
+formsOf letterD = csdForm ∷ day ∷ typeForm ∷ objectForm ∷ sequenceForm ∷ []
+formsOf letterM = csdForm ∷ day ∷ typeForm ∷ objectForm ∷ sequenceForm ∷ tenValues
+formsOf letterN = csdForm ∷ day ∷ typeForm ∷ objectForm ∷ sequenceForm ∷ tenValues
+formsOf letterA = csdForm ∷ day ∷ kindForm ∷ numberForm ∷ code ∷ day ∷ day ∷ []
+formsOf letterZ = csdForm ∷ day ∷ kindForm ∷ numberForm ∷ code ∷ day ∷ day ∷ []
+formsOf letterQ =
+    csdForm
+    ∷ day
+    ∷ objectForm
+    ∷ partyTypeForm
+    ∷ optional movementForm
+    ∷ optional paymentForm
+    ∷ optional transactionForm
+    ∷ optional currencyForm
+    ∷ numberForm
+    ∷ numberForm
+    ∷ numberForm
+    ∷ []

@@ -1,0 +1,14 @@
+pub mod Text
+pub mod Fields
+pub mod Forms
+pub mod Records
+pub mod Reading
+pub mod Keys
+pub mod Refusals
+pub mod Edits
+pub mod Judging
+pub mod Lone
+pub mod Printing
+pub mod Writing
+pub mod Keler
+pub mod Sound

@@ -1,0 +1,94 @@
+-- The lone book's answers to a list of lines (document 01, 'One depository alone'). Assumes nothing.
+use Prim.Native.Nat.{ℕ, zero, suc, _+_}
+use mathlib.Core.Bool.{Bool}
+use mathlib.Core.List.{List, [], _∷_}
+use lib.ListN.{getD}
+use Rattle.tables.specs.Count.{keep}
+use Rattle.meaning.specs.Text.{same}
+use Rattle.meaning.specs.Fields.{fields}
+use Rattle.meaning.specs.Records.{
+  TypeRecord,
+  Rule,
+  Row,
+  Period,
+  Question,
+  Book,
+  empty,
+  Command,
+  commandOf,
+  addType,
+  endType,
+  addRule,
+  reorder,
+  deleteRule,
+  addRow,
+  deleteRow,
+  addPeriod,
+  endPeriod,
+  ask,
+}
+use Rattle.meaning.specs.Reading.{Reading, refused, asks, reading}
+use Rattle.meaning.specs.Refusals.{refusal}
+use Rattle.meaning.specs.Edits.{edited}
+use Rattle.meaning.specs.Judging.{judged}
+use Rattle.meaning.specs.declared.Answer.{Answer}
+use Rattle.meaning.specs.declared.Answer.the-variants.{Taken, Refused, Judged}
+
+-- what a command that is not refused answers
+unfoldable pub reply : Book → Command → Answer
+unfolding judged
+reply b (addType day t) = Taken
+reply b (endType day type object last) = Taken
+reply b (addRule day r) = Taken
+reply b (reorder type object sequence new) = Taken
+reply b (deleteRule type object sequence) = Taken
+reply b (addRow w) = Taken
+reply b (deleteRow w) = Taken
+reply b (addPeriod day p) = Taken
+reply b (endPeriod day kind number code first last) = Taken
+reply b (ask q) = Judged (judged b q)
+
+-- the answer to a line, and the book after it
+pub record Step : Type 0 where
+  pub answer : Answer
+  pub book : Book
+
+-- by the command's refusal, 0 for none: the first that holds is the answer, and the lists stay
+unfoldable pub unless : ℕ → Book → Command → Step
+unfolding reply edited
+unless zero b k = record { answer = reply b k; book = edited b k }
+unless (suc n) b k = record { answer = Refused (suc n); book = b }
+
+unfoldable pub taken : Book → Command → Step
+unfolding unless refusal
+taken b k = unless (refusal b k) b k
+
+unfoldable pub afterReading : Book → Reading → Step
+unfolding taken commandOf
+afterReading b (refused n) = record { answer = Refused n; book = b }
+afterReading b (asks l v) = taken b (commandOf l v)
+
+-- each line is tested for refusals 2 to 10 in order
+unfoldable pub step : Book → List ℕ → Step
+unfolding afterReading reading
+step b line = afterReading b (reading line)
+
+unfoldable pub answersFrom : Book → List (List ℕ) → List Answer
+unfolding step
+answersFrom b [] = []
+answersFrom b (line ∷ lines) = let s = step b line in s .answer ∷ answersFrom (s .book) lines
+
+-- the answers of the lone book, all of whose lists are empty at first
+unfoldable pub answers : List (List ℕ) → List Answer
+unfolding answersFrom
+answers = answersFrom empty
+
+-- a line whose second field is the depository's digit names it
+unfoldable pub names : ℕ → List ℕ → Bool
+unfolding fields
+names csd line = same (getD (fields line) 1 []) ((48 + csd) ∷ [])
+
+-- what the depository's lone book, fed only the lines naming it, answers
+unfoldable pub loneAnswers : ℕ → List (List ℕ) → List Answer
+unfolding keep names answers
+loneAnswers csd lines = answers (keep (names csd) lines)

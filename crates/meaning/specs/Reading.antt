@@ -1,0 +1,84 @@
+-- How a line is read: refusals 2 to 5, or its letter and the numbers of its fields. Assumes nothing.
+use Prim.Native.Nat.{ℕ}
+use mathlib.Core.Bool.{Bool, true, false, not, cond, _&&_, _||_}
+use mathlib.Core.List.{List, [], _∷_}
+use mathlib.Core.Option.{Option, some, none}
+use lib.Dec.{ltb, eqb}
+use lib.ListN.{length}
+use Rattle.meaning.specs.Fields.{wellMade, fields}
+use Rattle.meaning.specs.Forms.{Form, read, Letter, letterOf, formsOf}
+use Rattle.meaning.specs.Records.{
+  TypeRecord,
+  Rule,
+  Row,
+  Period,
+  Question,
+  Command,
+  commandOf,
+  addType,
+  endType,
+  addRule,
+  reorder,
+  deleteRule,
+  addRow,
+  deleteRow,
+  addPeriod,
+  endPeriod,
+  ask,
+}
+
+-- what no single field shows of refusal 5
+unfoldable pub wrong : Command → Bool
+-- processing is 3 with object 2, or first is after last
+wrong (addType day t) = (eqb (t .processing) 3 && eqb (t .object) 2) || ltb (t .last) (t .first)
+wrong (endType day type object last) = false
+wrong (addRule day r) = ltb (r .last) (r .first)
+wrong (reorder type object sequence new) = false
+wrong (deleteRule type object sequence) = false
+wrong (addRow w) = false
+wrong (deleteRow w) = false
+wrong (addPeriod day p) = ltb (p .last) (p .first)
+wrong (endPeriod day kind number code first last) = false
+-- movement and payment are filled for object 1 and empty for object 2
+wrong (ask q) =
+    cond (eqb (q .object) 1) (eqb (q .movement) 0 || eqb (q .payment) 0) (not (eqb (q .movement) 0 && eqb (q .payment) 0))
+
+pub data Reading : Type 0 where
+  refused : ℕ → Reading
+  -- its letter, and the numbers of the fields after it
+  asks : Letter → List ℕ → Reading
+
+abbrev pub together : Option ℕ → Option (List ℕ) → Option (List ℕ)
+together none ns = none
+together (some n) none = none
+together (some n) (some ns) = some (n ∷ ns)
+
+-- each field by its form
+unfoldable pub readAll : List Form → List (List ℕ) → Option (List ℕ)
+unfolding read
+readAll [] fs = some []
+readAll (φ ∷ φs) [] = none
+readAll (φ ∷ φs) (f ∷ fs) = together (read φ f) (readAll φs fs)
+
+-- 5: a field is outside its form or range, wrongly empty or wrongly filled, or what `wrong` says
+unfoldable pub byNumbers : Letter → Option (List ℕ) → Reading
+unfolding wrong commandOf
+byNumbers l none = refused 5
+byNumbers l (some v) = cond (wrong (commandOf l v)) (refused 5) (asks l v)
+
+-- 4: the number of fields differs from the letter's
+unfoldable pub byLetter : Option Letter → List (List ℕ) → Reading
+unfolding byNumbers readAll formsOf
+byLetter none fs = refused 3
+byLetter (some l) fs = cond (eqb (length fs) (length (formsOf l))) (byNumbers l (readAll (formsOf l) fs)) (refused 4)
+
+-- 3: the first field isn't a letter of the table
+unfoldable pub byFields : List (List ℕ) → Reading
+unfolding byLetter
+byFields [] = refused 3
+byFields (f ∷ fs) = byLetter (letterOf f) fs
+
+-- 2: the line has 0 bytes or over 80, or a byte not allowed
+unfoldable pub reading : List ℕ → Reading
+unfolding wellMade byFields fields
+reading line = cond (wellMade line) (byFields (fields line)) (refused 2)

@@ -1,0 +1,105 @@
+-- Refusals 6 to 10, in the order of document 01's list (its 'Refused lines'). Assumes nothing.
+use Prim.Native.Nat.{ℕ}
+use mathlib.Core.Bool.{Bool, not, cond, _&&_, _||_}
+use mathlib.Core.List.{List, [], _∷_}
+use lib.Dec.{leb, ltb, eqb}
+use lib.ListN.{length}
+use Rattle.tables.specs.Count.{has}
+use Rattle.meaning.specs.Records.{
+  TypeRecord,
+  Rule,
+  Row,
+  Period,
+  Book,
+  Command,
+  addType,
+  endType,
+  addRule,
+  reorder,
+  deleteRule,
+  addRow,
+  deleteRow,
+  addPeriod,
+  endPeriod,
+  ask,
+  typeQuota,
+  ruleQuota,
+  rowQuota,
+  periodQuota,
+}
+use Rattle.meaning.specs.Keys.{isType, isRule, ofRule, isRow, isPeriod, clash, filled}
+
+-- the number of the first condition that holds; 0 where none does
+abbrev pub firstOf : List (ℕ × Bool) → ℕ
+firstOf [] = 0
+firstOf (c ∷ cs) = cond (c .1) (c .0) (firstOf cs)
+
+-- the new last day is before the record's first or after its present last
+abbrev pub outside : ℕ → ℕ → ℕ → Bool
+outside new first last = ltb new first || ltb last new
+
+-- the named type's days do not hold the new last day
+unfoldable pub typeOutside : ℕ → ℕ → ℕ → TypeRecord → Bool
+unfolding isType
+typeOutside type object new t = isType type object t && outside new (t .first) (t .last)
+
+-- the named period's days do not hold it
+unfoldable pub periodOutside : ℕ → ℕ → ℕ → ℕ → ℕ → Period → Bool
+unfolding isPeriod
+periodOutside kind number code first new p = isPeriod kind number code first p && outside new (p .first) (p .last)
+
+-- the row's rule, with other criteria than the row fills
+unfoldable pub otherCriteria : Row → Rule → Bool
+unfolding isRule
+otherCriteria w r = isRule (w .type) (w .object) (w .sequence) r && not (eqb (r .criteria) (filled (w .values)))
+
+-- the conditions of a command, each with its number
+unfoldable pub conditions : Book → Command → List (ℕ × Bool)
+unfolding has isType isRule ofRule isRow isPeriod clash typeOutside periodOutside otherCriteria
+conditions b (addType day t) =
+    (6, leb (t .first) day)
+    ∷ (8, has (isType (t .type) (t .object)) (b .types))
+    ∷ (10, leb typeQuota (length (b .types)))
+    ∷ []
+conditions b (endType day type object last) =
+    (6, ltb last day)
+    ∷ (7, not (has (isType type object) (b .types)))
+    ∷ (9, has (typeOutside type object last) (b .types))
+    ∷ []
+conditions b (addRule day r) =
+    (6, leb (r .first) day)
+    ∷ (7, not (has (isType (r .type) (r .object)) (b .types)))
+    ∷ (8, has (isRule (r .type) (r .object) (r .sequence)) (b .rules))
+    ∷ (10, leb ruleQuota (length (b .rules)))
+    ∷ []
+conditions b (reorder type object sequence new) =
+    (7, not (has (isRule type object sequence) (b .rules)))
+    ∷ (8, has (isRule type object new) (b .rules))
+    ∷ []
+conditions b (deleteRule type object sequence) =
+    (7, not (has (isRule type object sequence) (b .rules)))
+    ∷ (9, has (ofRule type object sequence) (b .rows))
+    ∷ []
+conditions b (addRow w) =
+    (7, not (has (isRule (w .type) (w .object) (w .sequence)) (b .rules)))
+    ∷ (8, has (isRow w) (b .rows))
+    ∷ (9, has (otherCriteria w) (b .rules))
+    ∷ (10, leb rowQuota (length (b .rows)))
+    ∷ []
+conditions b (deleteRow w) = (7, not (has (isRow w) (b .rows))) ∷ []
+conditions b (addPeriod day p) =
+    (6, leb (p .first) day)
+    ∷ (8, has (clash p) (b .periods))
+    ∷ (10, leb periodQuota (length (b .periods)))
+    ∷ []
+conditions b (endPeriod day kind number code first last) =
+    (6, ltb last day)
+    ∷ (7, not (has (isPeriod kind number code first) (b .periods)))
+    ∷ (9, has (periodOutside kind number code first last) (b .periods))
+    ∷ []
+conditions b (ask q) = []
+
+-- the earliest refusal whose condition holds; 0 where none does
+unfoldable pub refusal : Book → Command → ℕ
+unfolding conditions
+refusal b k = firstOf (conditions b k)

@@ -1,0 +1,60 @@
+-- A line written from its letter and its numbers, by the same table of forms that reads it. Assumes nothing.
+use Prim.Native.Nat.{ℕ, zero, suc, _-_}
+use mathlib.Core.List.{List, [], _∷_, _++_}
+use lib.ListN.{getD}
+use Rattle.meaning.specs.Text.{bytes, numeral, spelled}
+use Rattle.meaning.specs.Forms.{
+  Form,
+  upTo,
+  code,
+  day,
+  letters,
+  oneOf,
+  optional,
+  formsOf,
+  Letter,
+  letterT,
+  letterE,
+  letterR,
+  letterO,
+  letterD,
+  letterM,
+  letterN,
+  letterA,
+  letterZ,
+  letterQ,
+}
+
+-- the field of that form that gives the number
+unfoldable pub write : Form → ℕ → List ℕ
+unfolding numeral
+write (upTo m) n = numeral n
+write code n = numeral n
+write day n = numeral n
+write (letters k) n = spelled k n
+write (oneOf ws) n = getD ws (n - 1) []
+write (optional φ) zero = []
+write (optional φ) (suc n) = write φ (suc n)
+
+abbrev pub letterText : Letter → List ℕ
+letterText letterT = bytes "T"
+letterText letterE = bytes "E"
+letterText letterR = bytes "R"
+letterText letterO = bytes "O"
+letterText letterD = bytes "D"
+letterText letterM = bytes "M"
+letterText letterN = bytes "N"
+letterText letterA = bytes "A"
+letterText letterZ = bytes "Z"
+letterText letterQ = bytes "Q"
+
+-- each field behind a comma
+unfoldable pub writeAll : List Form → List ℕ → List ℕ
+unfolding write
+writeAll [] ns = []
+writeAll (φ ∷ φs) [] = []
+writeAll (φ ∷ φs) (n ∷ ns) = 44 ∷ (write φ n ++ writeAll φs ns)
+
+unfoldable pub written : Letter → List ℕ → List ℕ
+unfolding writeAll formsOf
+written l v = letterText l ++ writeAll (formsOf l) v

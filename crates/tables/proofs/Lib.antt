@@ -1,0 +1,5 @@
+pub mod Counts
+pub mod Lone
+pub mod Bytes
+pub mod Room
+pub mod Lists
