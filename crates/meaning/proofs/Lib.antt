@@ -1,3 +1,6 @@
 pub mod Desk
 pub mod Marked
 pub mod Edges
+pub mod Order
+pub mod Ranges
+pub mod Good

@@ -12,3 +12,4 @@ pub mod Printing
 pub mod Writing
 pub mod Keler
 pub mod Sound
+pub mod SameBook

@@ -3,3 +3,4 @@ pub mod Lone
 pub mod Bytes
 pub mod Room
 pub mod Lists
+pub mod Limits

@@ -8,7 +8,7 @@ use lib.Dec.{eqb, ltb, leb}
 use lib.ListN.{length}
 use borrow.Author.Tests.{ltb-true, ltb-false, lt-ltb, leb-true, leb-false, le-leb, lt-leb}
 use Rattle.tables.specs.Count.{bit, lesser, count, has, every, keep, alter, without, change, least, Same}
-use Rattle.tables.proofs.Counts.{cases, both, bit-none, count-keep, count-alter, count-length, every-count}
+use Rattle.tables.proofs.Counts.{cases, both, agree, bit-none, count-keep, count-alter, count-length, every-count}
 
 -- whether n is a number from 1 to k
 
@@ -92,6 +92,16 @@ module _ {R : Type 0} where
       let b = both (p x) (every p l) e in
       let d = both (q x) (every q l) f in
       rw (b .0, d .0, every-both p q l (b .1) (d .1))
+
+  pub every-and : (p q : R → Bool) (l : List R) → every (λ x. p x && q x) l ≡ (every p l && every q l)
+  every-and p q l =
+      agree (every (λ x. p x && q x) l) (every p l && every q l)
+      (λ e.
+      rw (
+        every-map (λ x. p x && q x) p l e (λ x t. both (p x) (q x) t .0),
+        every-map (λ x. p x && q x) q l e (λ x t. both (p x) (q x) t .1),
+      ))
+      (λ e. let b = both (every p l) (every q l) e in every-both p q l (b .0) (b .1))
 
   pub every-alter : (p : R → Bool) (g : R → R) (l : List R) → every p (alter g l) ≡ every (λ x. p (g x)) l
   unfolding every alter

@@ -1,0 +1,243 @@
+-- The order of a lone book's records carries no meaning: books with the same records give the same answers, line by line and for whole lists.
+use Prim.Native.Nat.{ℕ, zero, suc}
+use mathlib.Core.Path.{_≡_, refl, ap, ap₂, _∙_, fun-ext}
+use mathlib.Core.Bool.{Bool, not, _&&_}
+use mathlib.Core.List.{List, [], _∷_}
+use lib.Dec.{eqb}
+use Rattle.tables.specs.Count.{has, least, Same}
+use Rattle.tables.proofs.Lists.{same-length, same-has, same-least, same-cons, same-without, same-change}
+use Rattle.meaning.specs.Records.{
+  TypeRecord,
+  Rule,
+  Row,
+  Period,
+  Book,
+  Question,
+  Command,
+  commandOf,
+  addType,
+  endType,
+  addRule,
+  reorder,
+  deleteRule,
+  addRow,
+  deleteRow,
+  addPeriod,
+  endPeriod,
+  ask,
+  positive,
+  negative,
+  party,
+  account,
+  security,
+  rejection,
+  validationHold,
+  partyHold,
+}
+use Rattle.meaning.specs.Reading.{Reading, refused, asks, reading}
+use Rattle.meaning.specs.Keys.{isType, isRule, ofRule, isRow, isPeriod, clash}
+use Rattle.meaning.specs.Refusals.{typeOutside, periodOutside, otherCriteria, firstOf, conditions, refusal}
+use Rattle.meaning.specs.Edits.{typeUntil, ruleAt, rowAt, periodUntil, edited}
+use Rattle.meaning.specs.Judging.{covers, meetsAll, bears, tests, matches, speaks, applies, named, deciding, decided, verdict, judged}
+use Rattle.meaning.specs.Lone.{Step, reply, unless, taken, afterReading, step, answersFrom}
+use Rattle.meaning.specs.SameBook.{SameBook}
+use Rattle.meaning.specs.declared.Answer.the-variants.{Judged}
+
+module _ (b c : Book) (s : SameBook b c) where
+  -- what is asked of each list
+  types-has : (p : TypeRecord → Bool) → has p (b .types) ≡ has p (c .types)
+  types-has p = same-has p (b .types) (c .types) (s .types)
+
+  rules-has : (p : Rule → Bool) → has p (b .rules) ≡ has p (c .rules)
+  rules-has p = same-has p (b .rules) (c .rules) (s .rules)
+
+  rows-has : (p : Row → Bool) → has p (b .rows) ≡ has p (c .rows)
+  rows-has p = same-has p (b .rows) (c .rows) (s .rows)
+
+  periods-has : (p : Period → Bool) → has p (b .periods) ≡ has p (c .periods)
+  periods-has p = same-has p (b .periods) (c .periods) (s .periods)
+
+  conditions-same : (k : Command) → conditions b k ≡ conditions c k
+  unfolding conditions
+  conditions-same (addType day t) =
+      rw (types-has (isType (t .type) (t .object)), same-length (b .types) (c .types) (s .types))
+  conditions-same (endType day type object last) = rw (types-has (isType type object), types-has (typeOutside type object last))
+  conditions-same (addRule day r) =
+      rw (
+        types-has (isType (r .type) (r .object)),
+        rules-has (isRule (r .type) (r .object) (r .sequence)),
+        same-length (b .rules) (c .rules) (s .rules),
+      )
+  conditions-same (reorder type object sequence new) = rw (rules-has (isRule type object sequence), rules-has (isRule type object new))
+  conditions-same (deleteRule type object sequence) = rw (rules-has (isRule type object sequence), rows-has (ofRule type object sequence))
+  conditions-same (addRow w) =
+      rw (
+        rules-has (isRule (w .type) (w .object) (w .sequence)),
+        rules-has (otherCriteria w),
+        rows-has (isRow w),
+        same-length (b .rows) (c .rows) (s .rows),
+      )
+  conditions-same (deleteRow w) = rw (rows-has (isRow w))
+  conditions-same (addPeriod day p) = rw (periods-has (clash p), same-length (b .periods) (c .periods) (s .periods))
+  conditions-same (endPeriod day kind number code first last) =
+      rw (periods-has (isPeriod kind number code first), periods-has (periodOutside kind number code first last))
+  conditions-same (ask q) = refl
+
+  pub refusal-same : (k : Command) → refusal b k ≡ refusal c k
+  unfolding refusal
+  refusal-same k = ap firstOf (conditions-same k)
+
+  pub edited-same : (k : Command) → SameBook (edited b k) (edited c k)
+  unfolding edited
+  edited-same (addType day t) =
+      record { types = same-cons t (b .types) (c .types) (s .types); rules = s .rules; rows = s .rows; periods = s .periods }
+  edited-same (endType day type object last) = record {
+    types = same-change (isType type object) (typeUntil last) (b .types) (c .types) (s .types);
+    rules = s .rules;
+    rows = s .rows;
+    periods = s .periods;
+  }
+  edited-same (addRule day r) =
+      record { types = s .types; rules = same-cons r (b .rules) (c .rules) (s .rules); rows = s .rows; periods = s .periods }
+  edited-same (reorder type object sequence new) = record {
+    types = s .types;
+    rules = same-change (isRule type object sequence) (ruleAt new) (b .rules) (c .rules) (s .rules);
+    rows = same-change (ofRule type object sequence) (rowAt new) (b .rows) (c .rows) (s .rows);
+    periods = s .periods;
+  }
+  edited-same (deleteRule type object sequence) = record {
+    types = s .types;
+    rules = same-without (isRule type object sequence) (b .rules) (c .rules) (s .rules);
+    rows = s .rows;
+    periods = s .periods;
+  }
+  edited-same (addRow w) =
+      record { types = s .types; rules = s .rules; rows = same-cons w (b .rows) (c .rows) (s .rows); periods = s .periods }
+  edited-same (deleteRow w) = record {
+    types = s .types;
+    rules = s .rules;
+    rows = same-without (isRow w) (b .rows) (c .rows) (s .rows);
+    periods = s .periods;
+  }
+  edited-same (addPeriod day p) = record {
+    types = s .types;
+    rules = s .rules;
+    rows = s .rows;
+    periods = same-cons p (b .periods) (c .periods) (s .periods);
+  }
+  edited-same (endPeriod day kind number code first last) = record {
+    types = s .types;
+    rules = s .rules;
+    rows = s .rows;
+    periods = same-change (isPeriod kind number code first) (periodUntil last) (b .periods) (c .periods) (s .periods);
+  }
+  edited-same (ask q) = s
+
+  -- ---- judging
+
+  module _ (q : Question) where
+    bears-same : (kind number : ℕ) → bears b q kind number ≡ bears c q kind number
+    unfolding bears
+    bears-same kind number = fun-ext (λ code. periods-has _)
+
+    tests-same : tests b q ≡ tests c q
+    unfolding tests
+    tests-same = rw (bears-same party (q .party), bears-same account (q .account), bears-same security (q .security))
+
+    matches-same : (r : Rule) → matches b q r ≡ matches c q r
+    unfolding matches
+    matches-same r =
+        rows-has _
+        ∙ ap (λ ts. has (λ w. ofRule (r .type) (r .object) (r .sequence) w && meetsAll ts (w .values)) (c .rows)) tests-same
+
+    speaks-same : (type sign : ℕ) → speaks b q type sign ≡ speaks c q type sign
+    unfolding speaks
+    speaks-same type sign =
+        fun-ext (λ r.
+        ap
+        (λ m. eqb (r .type) type && eqb (r .object) (q .object) && eqb (r .sign) sign && covers (r .first) (r .last) (q .day) && m)
+        (matches-same r))
+
+    some-speaks-same : (type sign : ℕ) → has (speaks b q type sign) (b .rules) ≡ has (speaks c q type sign) (c .rules)
+    some-speaks-same type sign = rules-has _ ∙ ap (λ p. has p (c .rules)) (speaks-same type sign)
+
+    applies-same : (processing : ℕ) → applies b q processing ≡ applies c q processing
+    unfolding applies
+    applies-same processing =
+        fun-ext (λ t.
+        ap₂
+        (λ spoken exempt.
+        eqb (t .object) (q .object) && eqb (t .processing) processing && covers (t .first) (t .last) (q .day) && spoken && not exempt)
+        (some-speaks-same (t .type) positive) (some-speaks-same (t .type) negative))
+
+    named-same : (processing : ℕ) → named b q processing ≡ named c q processing
+    unfolding named
+    named-same processing =
+        same-least (λ t. t .type) (applies b q processing) (b .types) (c .types) (s .types)
+        ∙ ap (λ p. least (λ t. t .type) p (c .types)) (applies-same processing)
+
+    deciding-same : (type : ℕ) → deciding b q type ≡ deciding c q type
+    unfolding deciding
+    deciding-same type =
+        same-least (λ r. r .sequence) (speaks b q type positive) (b .rules) (c .rules) (s .rules)
+        ∙ ap (λ p. least (λ r. r .sequence) p (c .rules)) (speaks-same type positive)
+
+    decided-same : (type : ℕ) → decided b q type ≡ decided c q type
+    unfolding decided
+    decided-same zero = refl
+    decided-same (suc type) = rw (deciding-same (suc type))
+
+    verdict-same : (type hold wish : ℕ) → verdict b q type hold wish ≡ verdict c q type hold wish
+    unfolding verdict
+    verdict-same zero hold wish = rw (decided-same hold, decided-same wish)
+    verdict-same (suc type) hold wish = rw (decided-same (suc type))
+
+    pub judged-same : judged b q ≡ judged c q
+    unfolding judged
+    judged-same =
+        verdict-same (named b q rejection) (named b q validationHold) (named b q partyHold)
+        ∙ rw (named-same rejection, named-same validationHold, named-same partyHold)
+
+  reply-same : (k : Command) → reply b k ≡ reply c k
+  unfolding reply
+  reply-same (addType day t) = refl
+  reply-same (endType day type object last) = refl
+  reply-same (addRule day r) = refl
+  reply-same (reorder type object sequence new) = refl
+  reply-same (deleteRule type object sequence) = refl
+  reply-same (addRow w) = refl
+  reply-same (deleteRow w) = refl
+  reply-same (addPeriod day p) = refl
+  reply-same (endPeriod day kind number code first last) = refl
+  reply-same (ask q) = ap Judged (judged-same q)
+
+-- ---- lines
+
+pub record SameStep (s t : Step) : Type 0 where
+  pub answer : s .answer ≡ t .answer
+  pub book : SameBook (s .book) (t .book)
+
+unless-same : (b c : Book) → SameBook b c → (n : ℕ) (k : Command) → SameStep (unless n b k) (unless n c k)
+unfolding unless
+unless-same b c s zero k = record { answer = reply-same b c s k; book = edited-same b c s k }
+unless-same b c s (suc n) k = record { answer = refl; book = s }
+
+pub taken-same : (b c : Book) → SameBook b c → (k : Command) → SameStep (taken b k) (taken c k)
+unfolding taken
+taken-same b c s k = rw (refusal-same b c s k) (unless-same b c s (refusal c k) k)
+
+after-same : (b c : Book) → SameBook b c → (r : Reading) → SameStep (afterReading b r) (afterReading c r)
+unfolding afterReading
+after-same b c s (refused n) = record { answer = refl; book = s }
+after-same b c s (asks l v) = taken-same b c s (commandOf l v)
+
+pub step-same : (b c : Book) → SameBook b c → (line : List ℕ) → SameStep (step b line) (step c line)
+unfolding step
+step-same b c s line = after-same b c s (reading line)
+
+pub answers-same : (lines : List (List ℕ)) (b c : Book) → SameBook b c → answersFrom b lines ≡ answersFrom c lines
+unfolding answersFrom
+answers-same [] b c s = refl
+answers-same (line ∷ lines) b c s =
+    let t = step-same b c s line in
+    ap₂ _∷_ (t .answer) (answers-same lines (step b line .book) (step c line .book) (t .book))
