@@ -44,21 +44,19 @@ type-key type object t e =
 
 pub rule-key : (type object sequence : ℕ) (r : Rule) → isRule type object sequence r ≡ true → (type ≡ r .type) × (object ≡ r .object) × (sequence ≡ r .sequence)
 unfolding isRule
-rule-key type object sequence r e =
-    (
-      sym (eqb-true (r .type) type (search ands)),
-      sym (eqb-true (r .object) object (search ands)),
-      sym (eqb-true (r .sequence) sequence (search ands)),
-    )
+rule-key type object sequence r e = (
+  sym (eqb-true (r .type) type (search ands)),
+  sym (eqb-true (r .object) object (search ands)),
+  sym (eqb-true (r .sequence) sequence (search ands)),
+)
 
 pub of-key : (type object sequence : ℕ) (w : Row) → ofRule type object sequence w ≡ true → (type ≡ w .type) × (object ≡ w .object) × (sequence ≡ w .sequence)
 unfolding ofRule
-of-key type object sequence w e =
-    (
-      sym (eqb-true (w .type) type (search ands)),
-      sym (eqb-true (w .object) object (search ands)),
-      sym (eqb-true (w .sequence) sequence (search ands)),
-    )
+of-key type object sequence w e = (
+  sym (eqb-true (w .type) type (search ands)),
+  sym (eqb-true (w .object) object (search ands)),
+  sym (eqb-true (w .sequence) sequence (search ands)),
+)
 
 pub same-numbers : (xs ys : List ℕ) → sameNumbers xs ys ≡ true → xs ≡ ys
 same-numbers [] [] e = refl

@@ -1,4 +1,4 @@
-pub mod Desk
+pub mod DeskExample
 pub mod Marked
 pub mod Edges
 pub mod Order

@@ -109,6 +109,6 @@ kelerLine number csd day first last = getD (kelerLines csd day first last) (numb
 unfoldable pub kelerRefusal : ℕ → ℕ → ℕ → ℕ → ℕ → ℕ → ℕ
 kelerRefusal number csd day first last space =
     firstOf (
-      (5, not (within 1 55 number && within 1 8 csd && isDay day && isDay first && isDay last && leb first last && leb 80 space))
-      ∷ (6, leb first day)
-      ∷ [])
+    (5, not (within 1 55 number && within 1 8 csd && isDay day && isDay first && isDay last && leb first last && leb 80 space))
+    ∷ (6, leb first day)
+    ∷ [])

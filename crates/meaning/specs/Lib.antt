@@ -9,6 +9,7 @@ pub mod Edits
 pub mod Judging
 pub mod Lone
 pub mod Printing
+pub mod Desk
 pub mod Writing
 pub mod Keler
 pub mod Sound
