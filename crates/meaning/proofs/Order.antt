@@ -4,36 +4,9 @@ use mathlib.Core.Path.{_≡_, refl, ap, ap₂, _∙_, fun-ext}
 use mathlib.Core.Bool.{Bool, not, _&&_}
 use mathlib.Core.List.{List, [], _∷_}
 use lib.Dec.{eqb}
-use Rattle.tables.specs.Count.{has, least, Same}
+use Rattle.tables.specs.Count.{has, least}
 use Rattle.tables.proofs.Lists.{same-length, same-has, same-least, same-cons, same-without, same-change}
-use Rattle.meaning.specs.Records.{
-  TypeRecord,
-  Rule,
-  Row,
-  Period,
-  Book,
-  Question,
-  Command,
-  commandOf,
-  addType,
-  endType,
-  addRule,
-  reorder,
-  deleteRule,
-  addRow,
-  deleteRow,
-  addPeriod,
-  endPeriod,
-  ask,
-  positive,
-  negative,
-  party,
-  account,
-  security,
-  rejection,
-  validationHold,
-  partyHold,
-}
+use Rattle.meaning.specs.Records.{TypeRecord, Rule, Row, Period, Book, Question, Command, commandOf, addType, endType, addRule, reorder, deleteRule, addRow, deleteRow, addPeriod, endPeriod, ask, positive, negative, party, account, security, rejection, validationHold, partyHold}
 use Rattle.meaning.specs.Reading.{Reading, refused, asks, reading}
 use Rattle.meaning.specs.Keys.{isType, isRule, ofRule, isRow, isPeriod, clash}
 use Rattle.meaning.specs.Refusals.{typeOutside, periodOutside, otherCriteria, firstOf, conditions, refusal}

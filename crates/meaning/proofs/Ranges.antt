@@ -1,14 +1,14 @@
 -- What is read of a line is in document 01's ranges: the number of a field is in its form's range, and what a command would put into a book fits.
 use Prim.Native.Nat.{ℕ, zero, suc, _+_, _*_, _/_, _%_, _≤_, _<_}
-use mathlib.Core.Path.{_≡_, refl, ap, sym, _∙_}
-use mathlib.Core.Bool.{Bool, true, false, cond, not, _&&_, _||_, or-true, false≢true}
+use mathlib.Core.Path.{_≡_, refl, sym}
+use mathlib.Core.Bool.{Bool, true, false, _&&_, _||_, or-true, false≢true}
 use mathlib.Core.List.{List, [], _∷_, foldl}
 use mathlib.Core.Option.{Option, some, none}
 use native.Mathlib.Omega.{arith}
 use lib.Dec.{eqb, leb, ltb}
 use lib.ListN.{length, getD}
 use borrow.Author.Tests.{eqb-true, eq-eqb, leb-true, le-leb, ltb-false}
-use Rattle.tables.specs.Count.{bit, every}
+use Rattle.tables.specs.Count.{every}
 use Rattle.tables.proofs.Counts.{cases, both, and-r}
 use Rattle.meaning.specs.Text.{same, placed, word, decimal}
 use Rattle.meaning.specs.Fields.{within, isCapital, wellMade, fields}

@@ -6,7 +6,7 @@ use mathlib.Core.Option.{Option, some, none}
 use lib.Dec.{leb, ltb, eqb}
 use lib.ListN.{length, getD}
 use Rattle.tables.specs.Count.{every}
-use Rattle.meaning.specs.Text.{bytes, word, decimal, same, placed, place}
+use Rattle.meaning.specs.Text.{bytes, word, decimal, placed, place}
 use Rattle.meaning.specs.Fields.{within, isDigit, isCapital}
 
 -- ---- the forms of a field

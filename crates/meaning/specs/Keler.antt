@@ -1,6 +1,6 @@
 -- The KELER set's 55 lines, from three tables, and the step that writes one of them (document 01, 'The KELER set'). Assumes nothing.
 use Prim.Native.Nat.{ℕ, _-_}
-use mathlib.Core.Bool.{Bool, not, _&&_}
+use mathlib.Core.Bool.{not, _&&_}
 use mathlib.Core.List.{List, [], _∷_, _++_, map}
 use lib.Dec.{leb}
 use lib.ListN.{getD}

@@ -1,8 +1,8 @@
 -- How a record is known (document 01, 'Records'). Assumes nothing.
 use Prim.Native.Nat.{ℕ, zero, suc, _+_, _*_, _/_}
-use mathlib.Core.Bool.{Bool, true, false, _&&_, _||_}
+use mathlib.Core.Bool.{Bool, true, false, _&&_}
 use mathlib.Core.List.{List, [], _∷_}
-use lib.Dec.{leb, ltb, eqb}
+use lib.Dec.{leb, eqb}
 use Rattle.meaning.specs.Records.{TypeRecord, Rule, Row, Period}
 
 -- a type is known by type and object

@@ -6,27 +6,7 @@ use lib.ListN.{getD}
 use Rattle.tables.specs.Count.{keep}
 use Rattle.meaning.specs.Text.{same}
 use Rattle.meaning.specs.Fields.{fields}
-use Rattle.meaning.specs.Records.{
-  TypeRecord,
-  Rule,
-  Row,
-  Period,
-  Question,
-  Book,
-  empty,
-  Command,
-  commandOf,
-  addType,
-  endType,
-  addRule,
-  reorder,
-  deleteRule,
-  addRow,
-  deleteRow,
-  addPeriod,
-  endPeriod,
-  ask,
-}
+use Rattle.meaning.specs.Records.{Book, empty, Command, commandOf, addType, endType, addRule, reorder, deleteRule, addRow, deleteRow, addPeriod, endPeriod, ask}
 use Rattle.meaning.specs.Reading.{Reading, refused, asks, reading}
 use Rattle.meaning.specs.Refusals.{refusal}
 use Rattle.meaning.specs.Edits.{edited}
@@ -77,6 +57,12 @@ unfoldable pub answersFrom : Book → List (List ℕ) → List Answer
 unfolding step
 answersFrom b [] = []
 answersFrom b (line ∷ lines) = let s = step b line in s .answer ∷ answersFrom (s .book) lines
+
+-- the book after a list of lines
+unfoldable pub after : Book → List (List ℕ) → Book
+unfolding step
+after b [] = b
+after b (line ∷ lines) = after (step b line .book) lines
 
 -- the answers of the lone book, all of whose lists are empty at first
 unfoldable pub answers : List (List ℕ) → List Answer

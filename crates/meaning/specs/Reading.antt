@@ -1,31 +1,13 @@
 -- How a line is read: refusals 2 to 5, or its letter and the numbers of its fields. Assumes nothing.
 use Prim.Native.Nat.{ℕ}
-use mathlib.Core.Bool.{Bool, true, false, not, cond, _&&_, _||_}
+use mathlib.Core.Bool.{Bool, false, not, cond, _&&_, _||_}
 use mathlib.Core.List.{List, [], _∷_}
 use mathlib.Core.Option.{Option, some, none}
 use lib.Dec.{ltb, eqb}
 use lib.ListN.{length}
 use Rattle.meaning.specs.Fields.{wellMade, fields}
 use Rattle.meaning.specs.Forms.{Form, read, Letter, letterOf, formsOf}
-use Rattle.meaning.specs.Records.{
-  TypeRecord,
-  Rule,
-  Row,
-  Period,
-  Question,
-  Command,
-  commandOf,
-  addType,
-  endType,
-  addRule,
-  reorder,
-  deleteRule,
-  addRow,
-  deleteRow,
-  addPeriod,
-  endPeriod,
-  ask,
-}
+use Rattle.meaning.specs.Records.{Command, commandOf, addType, endType, addRule, reorder, deleteRule, addRow, deleteRow, addPeriod, endPeriod, ask}
 
 -- what no single field shows of refusal 5
 unfoldable pub wrong : Command → Bool

@@ -3,19 +3,7 @@
 use Prim.Native.Nat.{ℕ}
 use mathlib.Core.List.{List, [], _∷_}
 use lib.ListN.{getD}
-use Rattle.meaning.specs.Forms.{
-  Letter,
-  letterT,
-  letterE,
-  letterR,
-  letterO,
-  letterD,
-  letterM,
-  letterN,
-  letterA,
-  letterZ,
-  letterQ,
-}
+use Rattle.meaning.specs.Forms.{Letter, letterT, letterE, letterR, letterO, letterD, letterM, letterN, letterA, letterZ, letterQ}
 
 -- ---- words as numbers: their places in the lists of `Forms`
 

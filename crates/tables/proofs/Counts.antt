@@ -1,7 +1,7 @@
 -- Laws of counts. Each is an induction with one step of omega; the rest of the proofs only apply them.
 use Prim.Native.Nat.{ℕ, zero, suc, _+_, _≤_, _<_}
 use mathlib.Core.Path.{_≡_, refl, ap, sym, _∙_}
-use mathlib.Core.Bool.{Bool, true, false, _&&_, _||_, not, cond, and-true, and-false, false≢true}
+use mathlib.Core.Bool.{Bool, true, false, _&&_, _||_, not, cond, false≢true}
 use mathlib.Core.List.{List, [], _∷_}
 use native.Mathlib.Nat.{add-zero}
 use native.Mathlib.Numerals.{add-one}

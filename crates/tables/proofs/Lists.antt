@@ -4,7 +4,7 @@ use mathlib.Core.Path.{_≡_, refl, ap, sym, _∙_}
 use mathlib.Core.Bool.{Bool, true, false, _&&_, _||_, not, cond, false≢true}
 use mathlib.Core.List.{List, [], _∷_}
 use native.Mathlib.Omega.{arith}
-use lib.Dec.{eqb, ltb, leb}
+use lib.Dec.{ltb, leb}
 use lib.ListN.{length}
 use borrow.Author.Tests.{ltb-true, ltb-false, lt-ltb, leb-true, leb-false, le-leb, lt-leb}
 use Rattle.tables.specs.Count.{bit, lesser, count, has, every, keep, alter, without, change, least, Same}
@@ -132,6 +132,11 @@ module _ {R : Type 0} where
       cases (p x)
       (λ t. omega (arith, i, ap bit t, ap bit (h x (b .0) t)))
       (λ t. omega (arith, i, ap bit t))
+
+  pub count-kept : (p q : R → Bool) (l : List R) → count p (keep q l) ≤ count p l
+  unfolding count keep
+  count-kept p q [] = omega arith
+  count-kept p q (x ∷ l) = cases (q x) (λ t. rw t (omega (arith, count-kept p q l))) (λ t. rw t (omega (arith, count-kept p q l)))
 
   pub every-any : (l : List R) → every (λ x. true) l ≡ true
   unfolding every

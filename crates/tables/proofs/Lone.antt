@@ -1,12 +1,12 @@
 -- Laws of the lone list of any table: what is counted in it, what a store at one place makes of it, and what holds of each record in it.
-use Prim.Native.Nat.{ℕ, zero, suc, _+_, _-_, _*_, _≤_, _<_}
+use Prim.Native.Nat.{ℕ, zero, suc, _+_, _-_, _≤_, _<_}
 use mathlib.Core.Path.{_≡_, refl, ap, sym, _∙_}
 use mathlib.Core.Bool.{Bool, true, false, _&&_, _||_, not, cond}
-use mathlib.Core.List.{List, _∷_}
+use mathlib.Core.List.{_∷_}
 use native.Mathlib.Omega.{arith}
 use lib.Dec.{eqb, leb}
-use borrow.Author.Tests.{eqb-true, eq-eqb, ne-eqb, leb-true, le-leb}
-use Rattle.tables.specs.Count.{bit, countBelow, allBelow, findBelow, count, every, keep, alter, Same, lone}
+use borrow.Author.Tests.{eqb-true, eq-eqb, leb-true}
+use Rattle.tables.specs.Count.{bit, countBelow, allBelow, count, every, keep, alter, Same, lone}
 use Rattle.tables.proofs.Counts.{cases, cases-eq, both, agree, count-moved, count-only, all-at, all-put}
 
 module _ {P R : Type 0} (csd : P → ℕ) (rec : P → R) where
