@@ -1,6 +1,6 @@
 -- What is read of a line is in document 01's ranges: the number of a field is in its form's range, and what a command would put into a book fits.
 use Prim.Native.Nat.{ℕ, zero, suc, _+_, _*_, _/_, _%_, _≤_, _<_}
-use mathlib.Core.Path.{_≡_, refl, sym}
+use mathlib.Core.Path.{_≡_, refl, ap, sym}
 use mathlib.Core.Bool.{Bool, true, false, _&&_, _||_, or-true, false≢true}
 use mathlib.Core.List.{List, [], _∷_, foldl}
 use mathlib.Core.Option.{Option, some, none}
@@ -83,7 +83,14 @@ read-all-holds (φ ∷ φs) (f ∷ fs) ns e =
 
 -- ---- commands
 
-holds-at : (φs : List Form) (ns : List ℕ) → holdsAll φs ns ≡ true → (i : ℕ) → i < length φs → holds (getD φs i day) (ns ! i) ≡ true
+pub holds-length : (φs : List Form) (ns : List ℕ) → holdsAll φs ns ≡ true → length ns ≡ length φs
+unfolding holdsAll
+holds-length [] [] e = refl
+holds-length [] (n ∷ ns) e = absurd (false≢true e)
+holds-length (φ ∷ φs) [] e = absurd (false≢true e)
+holds-length (φ ∷ φs) (n ∷ ns) e = ap suc (holds-length φs ns (both (holds φ n) (holdsAll φs ns) e .1))
+
+pub holds-at : (φs : List Form) (ns : List ℕ) → holdsAll φs ns ≡ true → (i : ℕ) → i < length φs → holds (getD φs i day) (ns ! i) ≡ true
 unfolding holdsAll
 holds-at [] ns e i l = absurd (omega arith)
 holds-at (φ ∷ φs) [] e i l = absurd (false≢true e)
