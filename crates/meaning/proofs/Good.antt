@@ -1,19 +1,19 @@
 -- A sound lone book as facts, and back; books with the same records are sound alike.
-use Prim.Native.Nat.{ℕ, _≤_}
+use Prim.Native.Nat.{ℕ, _/_, _≤_}
 use mathlib.Core.Path.{_≡_, refl, ap, ap₂, sym, _∙_}
-use mathlib.Core.Bool.{Bool, true, false≢true}
+use mathlib.Core.Bool.{Bool, true, _&&_, false≢true}
 use mathlib.Core.List.{List, [], _∷_}
 use native.Mathlib.Omega.{arith}
-use lib.Dec.{eqb, leb}
+use lib.Dec.{eqb, leb, ltb}
 use lib.ListN.{length}
-use borrow.Author.Tests.{eqb-true, eq-eqb, leb-true, le-leb}
+use borrow.Author.Tests.{eqb-true, eq-eqb, leb-true, le-leb, ltb-true, ltb-false}
 use Rattle.tables.specs.Count.{count, has, every}
-use Rattle.tables.proofs.Counts.{both, ands, agree}
-use Rattle.tables.proofs.Lists.{every-both, every-map, same-length, same-has, same-every}
+use Rattle.tables.proofs.Counts.{both, ands, agree, cases}
+use Rattle.tables.proofs.Lists.{some-of, every-both, every-map, count-under, same-length, same-has, same-every}
 use Rattle.tables.proofs.Limits.{limit-all, limit-each}
-use Rattle.meaning.specs.Records.{TypeRecord, Rule, Row, Book}
-use Rattle.meaning.specs.Keys.{isType, isRule, ofRule, sameNumbers, isRow, clash}
-use Rattle.meaning.specs.Sound.{typeFits, ruleFits, rowFits, periodFits, goodType, goodRule, fillsRule, goodRow, goodPeriod, quotas, soundLone}
+use Rattle.meaning.specs.Records.{TypeRecord, Rule, Row, Period, Book}
+use Rattle.meaning.specs.Keys.{isType, isRule, ofRule, sameNumbers, isRow, isPeriod, clash}
+use Rattle.meaning.specs.Sound.{daysFit, typeFits, ruleFits, rowFits, periodFits, goodType, goodRule, fillsRule, goodRow, goodPeriod, quotas, soundLone}
 use Rattle.meaning.specs.SameBook.{SameBook}
 
 pub record Good (b : Book) : Type 0 where
@@ -209,3 +209,48 @@ sound-same b c s =
     agree (soundLone b) (soundLone c)
     (λ e. sound-of-good c (good-same b c s (good-of-sound b e)))
     (λ e. sound-of-good b (good-same c b (same-back b c s) (good-of-sound c e)))
+
+-- ---- a period is known by kind, number, code and first day: two of the same would share that day
+
+pub period-key : (κ n o f : ℕ) (p : Period) → isPeriod κ n o f p ≡ true → (κ ≡ p .kind) × (n ≡ p .number) × (o ≡ p .code) × (f ≡ p .first)
+unfolding isPeriod
+period-key κ n o f p e = (
+  sym (eqb-true (p .kind) κ (search ands)),
+  sym (eqb-true (p .number) n (search ands)),
+  sym (eqb-true (p .code) o (search ands)),
+  sym (eqb-true (p .first) f (search ands)),
+)
+
+-- first is not after last
+period-days : (p : Period) → periodFits p ≡ true → p .first ≤ p .last
+unfolding periodFits daysFit
+period-days p e = leb-true (p .first) (p .last) (search ands)
+
+same-clash : (κ n o f : ℕ) (p q : Period) → periodFits p ≡ true → periodFits q ≡ true → isPeriod κ n o f p ≡ true → isPeriod κ n o f q ≡ true → clash p q ≡ true
+unfolding clash
+same-clash κ n o f p q x y d e =
+    let k = period-key κ n o f p d in
+    let m = period-key κ n o f q e in
+    rw (
+      eq-eqb (q .kind) (p .kind) (sym (m .0) ∙ k .0),
+      eq-eqb (q .number) (p .number) (sym (m .1) ∙ k .1),
+      eq-eqb (q .code / 100) (p .code / 100) (ap (λ z. z / 100) (sym (m .2) ∙ k .2)),
+      le-leb (q .first) (p .last) (omega (arith, k .3, m .3, period-days p x)),
+      le-leb (p .first) (q .last) (omega (arith, k .3, m .3, period-days q y)),
+    )
+
+pub period-once : (b : Book) → Good b → (κ n o f : ℕ) → count (isPeriod κ n o f) (b .periods) ≤ 1
+period-once b g κ n o f =
+    cases (ltb 0 (count (isPeriod κ n o f) (b .periods)))
+    (λ t.
+    some-of (λ p. periodFits p && leb (count (clash p) (b .periods)) 1) (isPeriod κ n o f) (b .periods)
+    (every-both periodFits (λ p. leb (count (clash p) (b .periods)) 1) (b .periods) (g .periodsFit) (g .apart))
+    (ltb-true 0 (count (isPeriod κ n o f) (b .periods)) t)
+    (λ p h e.
+    let q = both (periodFits p) (leb (count (clash p) (b .periods)) 1) h in
+    omega (
+      arith,
+      leb-true (count (clash p) (b .periods)) 1 (q .1),
+      count-under periodFits (isPeriod κ n o f) (clash p) (b .periods) (g .periodsFit) (λ x y. same-clash κ n o f p x (q .0) y e),
+    )))
+    (λ t. omega (arith, ltb-false 0 (count (isPeriod κ n o f) (b .periods)) t))

@@ -4,3 +4,4 @@ pub mod Bytes
 pub mod Room
 pub mod Lists
 pub mod Limits
+pub mod Found
