@@ -6,3 +6,4 @@ pub mod Ranges
 pub mod First
 pub mod Good
 pub mod Kept
+pub mod Names

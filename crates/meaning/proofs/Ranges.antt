@@ -17,7 +17,7 @@ use Rattle.meaning.specs.Reading.{wrong, together, readAll, refused, ask
 use Rattle.meaning.specs.Records.{_!_, commandOf}
 use Rattle.meaning.specs.Sound.{daysFit, keyFits, typeFits, ruleFits, rowFits, periodFits, fits}
 
-given-some : (t : Bool) (n m : ℕ) → given t n ≡ some m → (t ≡ true) × (n ≡ m)
+pub given-some : (t : Bool) (n m : ℕ) → given t n ≡ some m → (t ≡ true) × (n ≡ m)
 given-some true n m e = (refl, cc)
 given-some false n m e = absurd (let z : _≡_ {A = ℕ} 0 1 = cc in omega arith)
 
@@ -68,7 +68,7 @@ read-holds (optional φ) f n e =
     (λ z. or-l (eqb n 0) (holds φ n) (eq-eqb n 0 (sym (given-some true 0 n (rw z at e) .1))))
     (λ z. rw (read-holds φ f n (rw z at e)) (or-true (eqb n 0)))
 
-together-some : (a : Option ℕ) (b : Option (List ℕ)) (ns : List ℕ) {G : Type 0} → together a b ≡ some ns → ((m : ℕ) (ms : List ℕ) → a ≡ some m → b ≡ some ms → ns ≡ m ∷ ms → G) → G
+pub together-some : (a : Option ℕ) (b : Option (List ℕ)) (ns : List ℕ) {G : Type 0} → together a b ≡ some ns → ((m : ℕ) (ms : List ℕ) → a ≡ some m → b ≡ some ms → ns ≡ m ∷ ms → G) → G
 together-some none b ns e k = absurd (let z : _≡_ {A = ℕ} 0 1 = cc in omega arith)
 together-some (some m) none ns e k = absurd (let z : _≡_ {A = ℕ} 0 1 = cc in omega arith)
 together-some (some m) (some ms) ns e k = k m ms refl refl (cc)
@@ -157,40 +157,52 @@ command-fits letterQ v e w = refl
 no-reading : {G : Type 0} (n : ℕ) (l : Letter) (v : List ℕ) → refused n ≡ asks l v → G
 no-reading n l v e = absurd (let z : _≡_ {A = ℕ} 0 1 = cc in omega arith)
 
--- The fields of a line that is read are in their ranges, and refusal 5 does not hold.
-pub record Ranged (l : Letter) (v : List ℕ) : Type 0 where
-  pub each : holdsAll (formsOf l) v ≡ true
+-- What a line that is read has: a first field, which is its letter, and fields after it that give its numbers.
+pub record Parts (line : List ℕ) (l : Letter) (v : List ℕ) : Type 0 where
+  pub head : List ℕ
+  pub rest : List (List ℕ)
+  pub cut : fields line ≡ head ∷ rest
+  pub letter : letterOf head ≡ some l
+  pub numbers : readAll (formsOf l) rest ≡ some v
   pub right : wrong (commandOf l v) ≡ false
 
-numbers-ranged : (l′ l : Letter) (o : Option (List ℕ)) (v : List ℕ) → ((ns : List ℕ) → o ≡ some ns → holdsAll (formsOf l′) ns ≡ true) → byNumbers l′ o ≡ asks l v → Ranged l v
+numbers-parts : (l′ l : Letter) (o : Option (List ℕ)) (v : List ℕ) → byNumbers l′ o ≡ asks l v → (l′ ≡ l) × (o ≡ some v) × (wrong (commandOf l v) ≡ false)
 unfolding byNumbers
-numbers-ranged l′ l none v h e = no-reading 5 l v e
-numbers-ranged l′ l (some v′) v h e =
+numbers-parts l′ l none v e = no-reading 5 l v e
+numbers-parts l′ l (some v′) v e =
     cases (wrong (commandOf l′ v′))
     (λ w. no-reading 5 l v (rw w at e))
     (λ w.
     let f = rw w at e in
     let x : l′ ≡ l = cc in
     let y : v′ ≡ v = cc in
-    rw (← x, ← y) (record { each = h v′ refl; right = w }))
+    (x, ap some y, rw (← x, ← y) w))
 
-letter-ranged : (o : Option Letter) (l : Letter) (fs : List (List ℕ)) (v : List ℕ) → byLetter o fs ≡ asks l v → Ranged l v
+letter-parts : (o : Option Letter) (l : Letter) (fs : List (List ℕ)) (v : List ℕ) → byLetter o fs ≡ asks l v → (o ≡ some l) × (readAll (formsOf l) fs ≡ some v) × (wrong (commandOf l v) ≡ false)
 unfolding byLetter
-letter-ranged none l fs v e = no-reading 3 l v e
-letter-ranged (some l′) l fs v e =
+letter-parts none l fs v e = no-reading 3 l v e
+letter-parts (some l′) l fs v e =
     cases (eqb (length fs) (length (formsOf l′)))
-    (λ t. numbers-ranged l′ l (readAll (formsOf l′) fs) v (read-all-holds (formsOf l′) fs) (rw t at e))
+    (λ t.
+    let p = numbers-parts l′ l (readAll (formsOf l′) fs) v (rw t at e) in
+    (ap some (p .0), rw (← (p .0)) (p .1), p .2))
     (λ t. no-reading 4 l v (rw t at e))
 
-fields-ranged : (fs : List (List ℕ)) (l : Letter) (v : List ℕ) → byFields fs ≡ asks l v → Ranged l v
+fields-parts : (line : List ℕ) (fs : List (List ℕ)) (l : Letter) (v : List ℕ) → fields line ≡ fs → byFields fs ≡ asks l v → Parts line l v
 unfolding byFields
-fields-ranged [] l v e = no-reading 3 l v e
-fields-ranged (f ∷ fs) l v e = letter-ranged (letterOf f) l fs v e
+fields-parts line [] l v c e = no-reading 3 l v e
+fields-parts line (f ∷ fs) l v c e =
+    let p = letter-parts (letterOf f) l fs v e in
+    record { head = f; rest = fs; cut = c; letter = p .0; numbers = p .1; right = p .2 }
 
-pub reading-ranged : (line : List ℕ) (l : Letter) (v : List ℕ) → reading line ≡ asks l v → Ranged l v
+pub reading-parts : (line : List ℕ) (l : Letter) (v : List ℕ) → reading line ≡ asks l v → Parts line l v
 unfolding reading
-reading-ranged line l v e =
-    cases (wellMade line) (λ t. fields-ranged (fields line) l v (rw t at e)) (λ t. no-reading 2 l v (rw t at e))
+reading-parts line l v e =
+    cases (wellMade line) (λ t. fields-parts line (fields line) l v refl (rw t at e)) (λ t. no-reading 2 l v (rw t at e))
+
+-- Its numbers are in their forms' ranges, and what it would put into a book fits.
+pub reading-ranged : (line : List ℕ) (l : Letter) (v : List ℕ) → reading line ≡ asks l v → holdsAll (formsOf l) v ≡ true
+reading-ranged line l v e = let p = reading-parts line l v e in read-all-holds (formsOf l) (p .rest) v (p .numbers)
 
 pub reading-fits : (line : List ℕ) (l : Letter) (v : List ℕ) → reading line ≡ asks l v → fits (commandOf l v) ≡ true
-reading-fits line l v e = let r = reading-ranged line l v e in command-fits l v (r .each) (r .right)
+reading-fits line l v e = command-fits l v (reading-ranged line l v e) (reading-parts line l v e .right)

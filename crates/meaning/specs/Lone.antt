@@ -1,11 +1,11 @@
 -- The lone book's answers to a list of lines (document 01, 'One depository alone'). Assumes nothing.
-use Prim.Native.Nat.{ℕ, zero, suc, _+_}
-use mathlib.Core.Bool.{Bool}
+use Prim.Native.Nat.{ℕ, zero, suc, _+_, _-_}
+use mathlib.Core.Bool.{Bool, cond}
 use mathlib.Core.List.{List, [], _∷_}
 use lib.ListN.{getD}
 use Rattle.tables.specs.Count.{keep}
 use Rattle.meaning.specs.Text.{same}
-use Rattle.meaning.specs.Fields.{fields}
+use Rattle.meaning.specs.Fields.{within, fields}
 use Rattle.meaning.specs.Records.{Book, empty, Command, commandOf, addType, endType, addRule, reorder, deleteRule, addRow, deleteRow, addPeriod, endPeriod, ask}
 use Rattle.meaning.specs.Reading.{Reading, refused, asks, reading}
 use Rattle.meaning.specs.Refusals.{refusal}
@@ -73,6 +73,17 @@ answers = answersFrom empty
 unfoldable pub names : ℕ → List ℕ → Bool
 unfolding fields
 names csd line = same (getD (fields line) 1 []) ((48 + csd) ∷ [])
+
+-- the number of a field that is one of the digits 1 to 8; 0 for any other
+abbrev pub digit : List ℕ → ℕ
+digit [] = 0
+digit (c ∷ []) = cond (within 49 56 c) (c - 48) 0
+digit (c ∷ d ∷ cs) = 0
+
+-- the depository that a line names; 0 where it names none
+unfoldable pub depository : List ℕ → ℕ
+unfolding fields
+depository line = digit (getD (fields line) 1 [])
 
 -- what the depository's lone book, fed only the lines naming it, answers
 unfoldable pub loneAnswers : ℕ → List (List ℕ) → List Answer

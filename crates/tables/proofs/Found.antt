@@ -17,7 +17,7 @@ module _ {P R : Type 0} (csd : P → ℕ) (rec : P → R) (at : ℕ → P) (n a 
   pub found : has p (lone csd rec a at n) ≡ true → (place < n) × (csd (at place) ≡ a) × (p (rec (at place)) ≡ true)
   found e =
       let f =
-          find-some n (λ k. eqb (csd (at k)) a && p (rec (at k))) n
-          (omega (arith, has-true p (lone csd rec a at n) e, count-lone csd rec a p at n)) in
+      find-some n (λ k. eqb (csd (at k)) a && p (rec (at k))) n
+      (omega (arith, has-true p (lone csd rec a at n) e, count-lone csd rec a p at n)) in
       let b = both (eqb (csd (at place)) a) (p (rec (at place))) (f .1) in
       (f .0, eqb-true (csd (at place)) a (b .0), b .1)
