@@ -7,3 +7,4 @@ pub mod First
 pub mod Good
 pub mod Kept
 pub mod Names
+pub mod Numerals

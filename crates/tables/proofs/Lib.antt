@@ -1,7 +1,12 @@
 pub mod Counts
-pub mod Lone
-pub mod Bytes
-pub mod Room
 pub mod Lists
 pub mod Limits
+pub mod Lone
+pub mod Room
 pub mod Found
+pub mod Each
+pub mod Bytes
+pub mod Zeros
+pub mod Below
+pub mod Keying
+pub mod Match

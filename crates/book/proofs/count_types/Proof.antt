@@ -1,0 +1,34 @@
+-- `book::count_types` meets its contract. Assumes nothing.
+use Rattle.tables.specs.Count.{countBelow}
+use Rattle.tables.proofs.Counts.{count-none, count-more}
+use Rattle.tables.proofs.Lone.{count-lone}
+use Rattle.book.specs.Lone.{typesOf}
+use Rattle.book.specs.Places.{typeHit}
+use Prim.Native.Nat.{_≤_, _-_}
+use mathlib.Core.Path.{_≡_, sym}
+use native.Mathlib.Omega.{arith}
+use borrow.Author.Needs.{needs}
+use Rattle.book.proofs.count_types.Statement.{statement}
+use Rattle.book.proofs.count_types.Tie as tie
+
+abbrev Inv-loop : tie.InvT-loop
+Inv-loop b a q n₀ i₀ n i = (i ≤ 128) × (n ≤ i) × (n ≡ countBelow (typeHit b a q) i)
+
+abbrev μ-loop : tie.MeasureT-loop
+μ-loop b a q n₀ i₀ n i = 128 - i
+
+pub count-types-spec : {M : Type 1} → statement M
+unfolding typesOf typeHit
+count-types-spec =
+    tie.close
+    (tie.spec
+    Inv-loop
+    μ-loop
+    (λ c. (search needs, search needs, sym (count-none _)))
+    (λ c κs. search needs)
+    (λ c κs. search needs)
+    (λ c. omega arith)
+    (λ c. omega arith)
+    (λ c. omega arith)
+    (λ c. (omega arith, omega arith, rw count-more cc))
+    (λ c. let e : c .before .loop .i ≡ 128 = omega arith in (rw count-lone (rw e at (c .before .loop .inv .2)), omega arith)))

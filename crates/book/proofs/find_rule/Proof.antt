@@ -1,0 +1,32 @@
+-- `book::find_rule` meets its contract. Assumes nothing.
+use Rattle.tables.specs.Count.{findBelow}
+use Rattle.tables.proofs.Counts.{find-none, find-more}
+use Rattle.book.specs.Places.{ruleHit, rulePlace}
+use Rattle.records.specs.Said.{rowOf}
+use Prim.Native.Nat.{_≤_, _-_}
+use mathlib.Core.Path.{_≡_, sym}
+use native.Mathlib.Omega.{arith}
+use borrow.Author.Needs.{needs}
+use Rattle.book.proofs.find_rule.Statement.{statement}
+use Rattle.book.proofs.find_rule.Tie as tie
+
+abbrev Inv-loop : tie.InvT-loop
+Inv-loop b a q w found₀ i₀ found i = (i ≤ 512) × (found ≡ findBelow 512 (ruleHit b a q (rowOf w)) i)
+
+abbrev μ-loop : tie.MeasureT-loop
+μ-loop b a q w found₀ i₀ found i = 512 - i
+
+pub find-rule-spec : {M : Type 1} → statement M
+unfolding rulePlace
+find-rule-spec =
+    tie.close
+    (tie.spec
+    Inv-loop
+    μ-loop
+    (λ c. (search needs, sym (find-none _ _)))
+    (λ c κs. search needs)
+    (λ c κs. search needs)
+    (λ c. omega arith)
+    (λ c. omega arith)
+    (λ c. (omega arith, rw find-more cc))
+    (λ c. let e : c .before .loop .i ≡ 512 = omega arith in rw e at (c .before .loop .inv .1)))

@@ -1,0 +1,31 @@
+-- `book::find_type` meets its contract. Assumes nothing.
+use Rattle.tables.specs.Count.{findBelow}
+use Rattle.tables.proofs.Counts.{find-none, find-more}
+use Rattle.book.specs.Places.{typeHit, typePlace}
+use Prim.Native.Nat.{_≤_, _-_}
+use mathlib.Core.Path.{_≡_, sym}
+use native.Mathlib.Omega.{arith}
+use borrow.Author.Needs.{needs}
+use Rattle.book.proofs.find_type.Statement.{statement}
+use Rattle.book.proofs.find_type.Tie as tie
+
+abbrev Inv-loop : tie.InvT-loop
+Inv-loop b a q found₀ i₀ found i = (i ≤ 128) × (found ≡ findBelow 128 (typeHit b a q) i)
+
+abbrev μ-loop : tie.MeasureT-loop
+μ-loop b a q found₀ i₀ found i = 128 - i
+
+pub find-type-spec : {M : Type 1} → statement M
+unfolding typePlace
+find-type-spec =
+    tie.close
+    (tie.spec
+    Inv-loop
+    μ-loop
+    (λ c. (search needs, sym (find-none _ _)))
+    (λ c κs. search needs)
+    (λ c κs. search needs)
+    (λ c. omega arith)
+    (λ c. omega arith)
+    (λ c. (omega arith, rw find-more cc))
+    (λ c. let e : c .before .loop .i ≡ 128 = omega arith in rw e at (c .before .loop .inv .1)))

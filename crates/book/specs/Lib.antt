@@ -1,0 +1,4 @@
+pub mod Lone
+pub mod Sound
+pub mod Places
+pub mod Emptied

@@ -1,0 +1,31 @@
+-- `book_main::fill_all` is safe and ends. Assumes nothing.
+use Prim.Native.Nat.{_≤_, _-_}
+use mathlib.Core.Path.{_≡_}
+use native.Mathlib.Omega.{arith}
+use lib.ListN.{length}
+use borrow.Author.Needs.{needs}
+use Rattle.book_main.proofs.fill_all.Statement.{statement}
+use Rattle.book_main.proofs.fill_all.Tie as tie
+
+abbrev Inv-loop : tie.InvT-loop
+Inv-loop b₀ k₀ b k = (k ≤ 1024) × (length b ≡ length b₀)
+
+abbrev μ-loop : tie.MeasureT-loop
+μ-loop b₀ k₀ b k = 1024 - k
+
+pub fill-all-spec : {M : Type 1} → statement M
+fill-all-spec =
+    tie.close
+    (tie.spec
+    Inv-loop
+    μ-loop
+    (λ c. search needs)
+    (λ c. omega arith)
+    (λ c. omega arith)
+    (λ c. omega arith)
+    (λ c κs. search needs)
+    (λ c. omega arith)
+    (λ c. omega arith)
+    (λ c. omega arith)
+    (λ c. omega arith)
+    (λ c. search needs))

@@ -1,0 +1,98 @@
+-- What the stores and the edits show, from what the calls ensure.
+use Prim.Native.Nat.{ℕ, _≤_, _<_}
+use mathlib.Core.Path.{_≡_, refl, ap, sym, _∙_}
+use mathlib.Core.Bool.{Bool, true, false, cond}
+use mathlib.Core.List.{List, [], _∷_}
+use lib.Dec.{eqb}
+use borrow.Author.Tests.{lt-ltb, le-ltb, eq-eqb, ne-eqb}
+use Rattle.meaning.specs.Keys.{ofRule}
+use Rattle.meaning.specs.Records.{_!_}
+use Rattle.places.specs.Layout.{typeAt, putType, ruleAt, putRule, zeroRule, rowAt, putRow, zeroRow, periodAt, putPeriod}
+use Rattle.places.specs.declared.RestrictionType.{RestrictionType}
+use Rattle.places.specs.declared.Rule.{Rule}
+use Rattle.places.specs.declared.Row.{Row}
+use Rattle.places.specs.declared.Period.{Period}
+use Rattle.records.specs.Said.{rowOf}
+use Rattle.records.specs.Asks.{rowMeets}
+use Rattle.records.specs.declared.TypeAsk.the-variants as Types
+use Rattle.records.specs.declared.RuleAsk.the-variants as Rules
+use Rattle.records.specs.declared.RowAsk.the-variants as Rows
+use Rattle.records.specs.declared.PeriodAsk.the-variants as Periods
+use Rattle.book.specs.Places.{typePlace, rulePlace, rowPlace, periodPlace}
+use Rattle.edits.specs.Asked.{byte, ruleFrom, rowFrom}
+use Rattle.edits.specs.Moves.{ruleWith, rowWith, carried, carryRow, carryRows}
+use Rattle.edits.specs.Edit.{noRow, freeType, freeRule, freeRow, freePeriod, typeEnded, periodEnded, storeType, storeRule, storeRow, storePeriod, endedType, endedPeriod, deletedRule, deletedRow, reorderedRule}
+
+module _ (b b′ : List ℕ) (i : ℕ) where
+  pub type-stored : (r : RestrictionType) → i < 128 → b′ ≡ putType b i r → b′ ≡ storeType b i r
+  unfolding storeType
+  type-stored r l e = rw (lt-ltb i 128 l) e
+
+  pub type-unstored : (r : RestrictionType) → 128 ≤ i → b ≡ storeType b i r
+  unfolding storeType
+  type-unstored r l = rw (le-ltb i 128 l)
+
+  pub rule-stored : (r : Rule) → i < 512 → b′ ≡ putRule b i r → b′ ≡ storeRule b i r
+  unfolding storeRule
+  rule-stored r l e = rw (lt-ltb i 512 l) e
+
+  pub rule-unstored : (r : Rule) → 512 ≤ i → b ≡ storeRule b i r
+  unfolding storeRule
+  rule-unstored r l = rw (le-ltb i 512 l)
+
+  pub row-stored : (r : Row) → i < 1024 → b′ ≡ putRow b i r → b′ ≡ storeRow b i r
+  unfolding storeRow
+  row-stored r l e = rw (lt-ltb i 1024 l) e
+
+  pub row-unstored : (r : Row) → 1024 ≤ i → b ≡ storeRow b i r
+  unfolding storeRow
+  row-unstored r l = rw (le-ltb i 1024 l)
+
+  pub period-stored : (r : Period) → i < 1024 → b′ ≡ putPeriod b i r → b′ ≡ storePeriod b i r
+  unfolding storePeriod
+  period-stored r l e = rw (lt-ltb i 1024 l) e
+
+  pub period-unstored : (r : Period) → 1024 ≤ i → b ≡ storePeriod b i r
+  unfolding storePeriod
+  period-unstored r l = rw (le-ltb i 1024 l)
+
+-- ---- O: a row is carried along if it is the depository's and of the rule
+
+module _ (b b′ : List ℕ) (i new x : ℕ) (key r : Row) (met : Bool) where
+  pub row-carried : (w : Row) → b′ ≡ putRow b i w → w ≡ record { csd = r .csd; number = r .number; object = r .object; sequence = new; values = r .values } → met ≡ true → met ≡ rowMeets Rows.OfRule (rowOf key) (rowOf r) → r ≡ rowAt b i → x ≡ key .csd → x ≡ rowAt b i .csd → b′ ≡ carryRow (key .csd) (key .number) (key .object) (key .sequence) new b i
+  unfolding carryRow rowMeets rowOf
+  row-carried w e f g h k l m =
+      let o : eqb (rowAt b i .csd) (key .csd) ≡ true = eq-eqb (rowAt b i .csd) (key .csd) (sym m ∙ l) in
+      let p : ofRule (key .number) (key .object) (key .sequence) (rowOf (rowAt b i)) ≡ true = ap (λ z. ofRule (key .number) (key .object) (key .sequence) (rowOf z)) (sym k) ∙ sym h ∙ g in
+      rw (o, p) (e ∙ ap (putRow b i) f ∙ ap (λ z. putRow b i (rowWith new z)) k)
+
+  pub row-of-other : met ≡ false → met ≡ rowMeets Rows.OfRule (rowOf key) (rowOf r) → r ≡ rowAt b i → x ≡ key .csd → x ≡ rowAt b i .csd → b ≡ carryRow (key .csd) (key .number) (key .object) (key .sequence) new b i
+  unfolding carryRow rowMeets rowOf
+  row-of-other g h k l m =
+      let o : eqb (rowAt b i .csd) (key .csd) ≡ true = eq-eqb (rowAt b i .csd) (key .csd) (sym m ∙ l) in
+      let p : ofRule (key .number) (key .object) (key .sequence) (rowOf (rowAt b i)) ≡ false = ap (λ z. ofRule (key .number) (key .object) (key .sequence) (rowOf z)) (sym k) ∙ sym h ∙ g in
+      rw (o, p)
+
+pub row-of-neighbour : (b : List ℕ) (i new x : ℕ) (key : Row) → (x ≡ key .csd → ⊥) → x ≡ rowAt b i .csd → b ≡ carryRow (key .csd) (key .number) (key .object) (key .sequence) new b i
+unfolding carryRow
+row-of-neighbour b i new x key l m = rw (ne-eqb (rowAt b i .csd) (key .csd) (λ z. l (m ∙ z)))
+
+pub rule-reordered : (b b₁ b₂ : List ℕ) (i new : ℕ) (key z : Row) (r m : Rule) → b₂ ≡ carryRows (key .csd) (key .number) (key .object) (key .sequence) new b₁ 1024 → b₁ ≡ storeRule b i m → m ≡ record { csd = r .csd; number = r .number; object = r .object; sequence = new; sign = r .sign; criteria = r .criteria; first = r .first; last = r .last } → r ≡ ruleAt b i → i ≡ rulePlace b (key .csd) (Rules.Named (key .number) (key .object) (key .sequence)) (rowOf z) → z ≡ zeroRow → b₂ ≡ reorderedRule b (key .csd) (key .number) (key .object) (key .sequence) new
+unfolding reorderedRule
+rule-reordered b b₁ b₂ i new key z r m e f g h k l =
+    e
+    ∙ ap (λ x. carryRows (key .csd) (key .number) (key .object) (key .sequence) new x 1024)
+    (f ∙ ap (storeRule b i) (g ∙ ap (ruleWith new) h)
+    ∙ ap (λ j. storeRule b j (ruleWith new (ruleAt b j)))
+    (k ∙ ap (λ w. rulePlace b (key .csd) (Rules.Named (key .number) (key .object) (key .sequence)) (rowOf w)) l))
+
+-- ---- the records that a line's numbers give
+
+module _ (v : List ℕ) (c n o s g : ℕ) where
+  pub rule-made : (r : Rule) → r ≡ record { csd = c; number = n; object = o; sequence = s; sign = g; criteria = v ! 6; first = v ! 7; last = v ! 8 } → g ≡ byte v 5 → s ≡ byte v 4 → o ≡ byte v 3 → n ≡ byte v 2 → c ≡ byte v 0 → r ≡ ruleFrom v
+  unfolding ruleFrom
+  rule-made r e f h i j k = e ∙ rw (f, h, i, j, k)
+
+pub row-made : (v : List ℕ) (c n o s : ℕ) (r : Row) → r ≡ record { csd = c; number = n; object = o; sequence = s; values = v ! 5 ∷ v ! 6 ∷ v ! 7 ∷ v ! 8 ∷ v ! 9 ∷ v ! 10 ∷ v ! 11 ∷ v ! 12 ∷ v ! 13 ∷ v ! 14 ∷ [] } → s ≡ byte v 4 → o ≡ byte v 3 → n ≡ byte v 2 → c ≡ byte v 0 → r ≡ rowFrom v
+unfolding rowFrom
+row-made v c n o s r e f h i j = e ∙ rw (f, h, i, j)

@@ -1,0 +1,11 @@
+pub mod Kept
+pub mod Edits
+pub mod Carried
+pub mod Widths
+pub mod Leave
+pub mod Placed
+pub mod Stay
+pub mod Refuse
+pub mod Does
+pub mod ByLetter
+pub mod AskedRight

@@ -1,0 +1,12 @@
+-- `edits::full_rules` meets its contract. Assumes nothing.
+use mathlib.Core.Path.{ap, _∙_}
+use lib.Dec.{leb}
+use Rattle.tables.proofs.Counts.{count-length}
+use Rattle.records.specs.Asks.{ruleMeets}
+use borrow.Author.Needs.{needs}
+use Rattle.edits.proofs.full_rules.Statement.{statement}
+use Rattle.edits.proofs.full_rules.Tie as tie
+
+pub full-rules-spec : {M : Type 1} → statement M
+unfolding ruleMeets
+full-rules-spec = tie.close (tie.spec (λ c κs. search needs) (λ c κs. search needs) (λ c. ap (leb 64) (c .count-rules .ensures .0 ∙ count-length _)))

@@ -1,0 +1,4 @@
+pub mod Rows
+pub mod Types
+pub mod Ranged
+pub mod Right

@@ -1,0 +1,33 @@
+-- `judge::codes_borne` meets its contract. Assumes nothing.
+use Prim.Native.Nat.{_-_, _≤_}
+use mathlib.Core.Path.{_≡_}
+use native.Mathlib.Omega.{arith}
+use borrow.Author.Needs.{needs}
+use Rattle.tables.specs.Keyed.{Keyed}
+use Rattle.tables.proofs.Keying.{keyed-none, keyed-more, keyed-marks}
+use Rattle.places.specs.Layout.{periodAt}
+use Rattle.judge.specs.Stages.{codeKey, borneBy, codesBorne, tableSize}
+use Rattle.judge.proofs.codes_borne.Statement.{statement}
+use Rattle.judge.proofs.codes_borne.Tie as tie
+
+abbrev Inv-loop : tie.InvT-loop
+Inv-loop b q t₀ i₀ t i = (i ≤ 1024) × Keyed tableSize (λ r. r .csd) (q .csd) (periodAt b) (λ p. codeKey (p .code) (p .kind)) (borneBy q) (λ r m. 1) t i
+
+abbrev μ-loop : tie.MeasureT-loop
+μ-loop b q t₀ i₀ t i = 1024 - i
+
+pub codes-borne-spec : {M : Type 1} → statement M
+unfolding codesBorne
+codes-borne-spec =
+    tie.close
+    (tie.spec
+    Inv-loop
+    μ-loop
+    (λ c κs. search needs)
+    (λ c. (search needs, search keyed-none))
+    (λ c. search needs)
+    (λ c κs. search needs)
+    (λ c. omega arith)
+    (λ c. omega arith)
+    (λ c. (omega arith, search keyed-more))
+    (λ c. let e : c .before .loop .i ≡ 1024 = omega arith in search keyed-marks))

@@ -1,0 +1,29 @@
+-- `judge::criterion_met` meets its contract. Assumes nothing.
+use borrow.Author.Needs.{needs}
+use Rattle.judge.specs.Stages.{testAt}
+use Rattle.judge.proofs.Rows.{arm, arm-marked, arm-none}
+use Rattle.judge.proofs.criterion_met.Statement.{statement}
+use Rattle.judge.proofs.criterion_met.Tie as tie
+
+pub criterion-met-spec : {M : Type 1} → statement M
+unfolding testAt
+criterion-met-spec =
+    tie.close
+    (tie.spec
+    (λ c κs. search needs)
+    (λ c κs. search needs)
+    (λ c κs. search needs)
+    (λ c κs. search needs)
+    (λ c κs. search needs)
+    (λ c κs. search needs)
+    (λ c. search arm)
+    (λ c. search arm)
+    (λ c. search arm)
+    (λ c. search arm)
+    (λ c. search arm)
+    (λ c. search arm)
+    (λ c. search arm-marked)
+    (λ c. search arm-marked)
+    (λ c. search arm-marked)
+    (λ c. search arm)
+    (λ c. search arm-none))

@@ -1,0 +1,170 @@
+-- How a question is judged over the places of the lent book, in one pass over each table. A stage leaves marks, tests of the keys of a table
+-- of numbers; each definition is of any bytes. Assumes nothing.
+use Prim.Native.Nat.{ℕ, zero, suc, _+_, _*_}
+use mathlib.Core.Bool.{Bool, false, _&&_, _||_, not, cond}
+use mathlib.Core.List.{List, [], _∷_}
+use lib.Dec.{eqb}
+use lib.ListN.{getD}
+use Rattle.tables.specs.Count.{lesser, allBelow}
+use Rattle.tables.specs.Below.{leastBelow}
+use Rattle.tables.specs.Keyed.{keys, leasts, afterPlace}
+use Rattle.meaning.specs.Records as M
+use Rattle.meaning.specs.Records.{positive, negative, party, account, security, rejection, validationHold, partyHold}
+use Rattle.meaning.specs.Judging.{covers, by}
+use Rattle.meaning.specs.declared.Deciding.{Deciding}
+use Rattle.meaning.specs.declared.Verdict.{Verdict}
+use Rattle.places.specs.Layout.{typeAt, ruleAt, rowAt, periodAt}
+use Rattle.places.specs.declared.RestrictionType.{RestrictionType}
+use Rattle.places.specs.declared.Rule.{Rule}
+use Rattle.places.specs.declared.Row.{Row}
+use Rattle.places.specs.declared.Period.{Period}
+use Rattle.judge.specs.declared.Question.{Question}
+
+-- what a question asks, as the written meaning's
+abbrev pub asked : Question → M.Question
+asked q = record {
+  day = q .day;
+  object = q .object;
+  partyType = q .role;
+  movement = q .movement;
+  payment = q .payment;
+  transaction = q .transaction;
+  currency = q .currency;
+  party = q .party;
+  account = q .account;
+  security = q .security;
+}
+
+-- ---- the keys: the last part of each is below 4 or below 100
+
+-- a code of a kind
+abbrev pub codeKey : ℕ → ℕ → ℕ
+codeKey code kind = code * 4 + kind
+
+-- a rule of the question's object
+abbrev pub ruleKey : ℕ → ℕ → ℕ
+ruleKey type sequence = type * 100 + sequence
+
+-- a rule with its sign
+abbrev pub signKey : ℕ → ℕ → ℕ → ℕ
+signKey type sequence sign = ruleKey type sequence * 4 + sign
+
+-- the size of a table of marks
+abbrev pub tableSize : ℕ
+tableSize = 40000
+
+-- ---- 1. the codes that the question's party, account and security bear on the day
+
+-- the question's number of that kind
+unfoldable pub sought : Question → ℕ → ℕ
+sought q kind = cond (eqb kind party) (q .party) (cond (eqb kind account) (q .account) (q .security))
+
+unfoldable pub borneBy : Question → Period → Bool
+borneBy q p = eqb (p .number) (sought q (p .kind)) && covers (p .first) (p .last) (q .day)
+
+-- the table of codes after the period at place i
+abbrev pub markCode : List ℕ → Question → ℕ → List ℕ → List ℕ
+markCode b q i t = afterPlace (λ p. p .csd) (q .csd) (λ p. codeKey (p .code) (p .kind)) (borneBy q) (λ p m. 1) (periodAt b i) t
+
+unfoldable pub codesBorne : List ℕ → Question → ℕ → Bool
+codesBorne b q = keys (λ p. p .csd) (q .csd) (periodAt b) (λ p. codeKey (p .code) (p .kind)) (borneBy q) tableSize 1024
+
+-- ---- 2. the rules of which a row matches
+
+-- which values of criteria 0 to 9 the question meets, by the codes borne
+abbrev pub tests : Question → (ℕ → Bool) → List (ℕ → Bool)
+tests q codes =
+    eqb (q .role)
+    ∷ eqb (q .movement)
+    ∷ eqb (q .payment)
+    ∷ eqb (q .transaction)
+    ∷ eqb (q .security)
+    ∷ eqb (q .account)
+    ∷ (λ v. codes (codeKey v party))
+    ∷ (λ v. codes (codeKey v account))
+    ∷ (λ v. codes (codeKey v security))
+    ∷ eqb (q .currency)
+    ∷ []
+
+-- the test of a criterion; none past the end
+unfoldable pub testAt : List (ℕ → Bool) → ℕ → ℕ → Bool
+testAt [] i v = false
+testAt (f ∷ fs) zero v = f v
+testAt (f ∷ fs) (suc i) v = testAt fs i v
+
+-- each of the ten values is empty or met
+unfoldable pub valuesMet : List (ℕ → Bool) → List ℕ → Bool
+valuesMet fs vs = allBelow (λ i. eqb (getD vs i 0) 0 || testAt fs i (getD vs i 0)) 10
+
+unfoldable pub rowMatches : Question → (ℕ → Bool) → Row → Bool
+rowMatches q codes w = eqb (w .object) (q .object) && valuesMet (tests q codes) (w .values)
+
+-- the table of rules with a matching row, after the row at place i
+abbrev pub markRow : List ℕ → Question → (ℕ → Bool) → ℕ → List ℕ → List ℕ
+markRow b q codes i t =
+    afterPlace (λ w. w .csd) (q .csd) (λ w. ruleKey (w .number) (w .sequence)) (rowMatches q codes) (λ w m. 1) (rowAt b i) t
+
+unfoldable pub rowsMatched : List ℕ → Question → (ℕ → Bool) → ℕ → Bool
+rowsMatched b q codes =
+    keys (λ w. w .csd) (q .csd) (rowAt b) (λ w. ruleKey (w .number) (w .sequence)) (rowMatches q codes) tableSize 1024
+
+-- ---- 3. the rules of each sign that match
+
+unfoldable pub ruleMatches : Question → (ℕ → Bool) → Rule → Bool
+ruleMatches q rows r =
+    eqb (r .object) (q .object) && (covers (r .first) (r .last) (q .day) && rows (ruleKey (r .number) (r .sequence)))
+
+-- the table of matching rules, after the rule at place i
+abbrev pub markRule : List ℕ → Question → (ℕ → Bool) → ℕ → List ℕ → List ℕ
+markRule b q rows i t =
+    afterPlace (λ r. r .csd) (q .csd) (λ r. signKey (r .number) (r .sequence) (r .sign)) (ruleMatches q rows) (λ r m. 1) (ruleAt b i) t
+
+unfoldable pub rulesMatched : List ℕ → Question → (ℕ → Bool) → ℕ → Bool
+rulesMatched b q rows =
+    keys (λ r. r .csd) (q .csd) (ruleAt b) (λ r. signKey (r .number) (r .sequence) (r .sign)) (ruleMatches q rows) tableSize 512
+
+-- ---- 4. the rules of a type, looked through in rising sequence
+
+-- the first rule of that type and sign that matches, 0 where none does
+unfoldable pub firstRule : (ℕ → Bool) → ℕ → ℕ → ℕ
+firstRule rules type sign = leastBelow (λ s. cond (rules (signKey type s sign)) s 0) 100
+
+-- ---- 5. the lowest type of each processing
+
+-- a current type, of which a positive rule matches and no negative one does
+unfoldable pub typeApplies : Question → (ℕ → Bool) → RestrictionType → Bool
+typeApplies q rules t =
+    (eqb (t .object) (q .object) && covers (t .first) (t .last) (q .day))
+    && (not (eqb (firstRule rules (t .number) positive) 0) && eqb (firstRule rules (t .number) negative) 0)
+
+-- the lowest type of each processing, after the type at place i
+abbrev pub nameType : List ℕ → Question → (ℕ → Bool) → ℕ → List ℕ → List ℕ
+nameType b q rules i n =
+    afterPlace (λ t. t .csd) (q .csd) (λ t. t .processing) (typeApplies q rules) (λ t m. lesser (t .number) m) (typeAt b i) n
+
+unfoldable pub typesNamed : List ℕ → Question → (ℕ → Bool) → ℕ → ℕ
+typesNamed b q rules =
+    leasts (λ t. t .csd) (q .csd) (typeAt b) (λ t. t .processing) (typeApplies q rules) (λ t. t .number) 4 128
+
+-- ---- the verdict
+
+-- the type, if any, with its deciding rule
+unfoldable pub decided : (ℕ → Bool) → ℕ → Deciding
+decided rules type = by type (cond (eqb type 0) 0 (firstRule rules type positive))
+
+-- by the type named for each processing, 0 for none: a rejected instruction shows no hold
+unfoldable pub verdict : (ℕ → Bool) → (ℕ → ℕ) → Verdict
+verdict rules named = record {
+  rejected = not (eqb (named rejection) 0);
+  rejection = decided rules (named rejection);
+  validation = decided rules (cond (eqb (named rejection) 0) (named validationHold) 0);
+  party = decided rules (cond (eqb (named rejection) 0) (named partyHold) 0);
+}
+
+-- the rules that match the question, by the book's bytes
+unfoldable pub rulesOn : List ℕ → Question → ℕ → Bool
+rulesOn b q = rulesMatched b q (rowsMatched b q (codesBorne b q))
+
+-- the verdict, by the book's bytes
+unfoldable pub judgedBy : List ℕ → Question → Verdict
+judgedBy b q = verdict (rulesOn b q) (typesNamed b q (rulesOn b q))

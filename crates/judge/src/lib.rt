@@ -1,0 +1,389 @@
+// A question judged over the lent book in one pass over each table, by tables of numbers that are addressed by key (document 01, 'How a
+// question is judged'). A place of another depository is passed over by its first byte.
+ghost use mathlib.Core.Path.{_≡_};
+ghost use mathlib.Core.Bool.{_&&_, _||_, not, cond};
+ghost use lib.ListN.{set, getD};
+ghost use Rattle.tables.specs.Count.{lesser};
+ghost use Rattle.tables.specs.Keyed.{marked, Blank};
+ghost use Rattle.meaning.specs.Judging.{covers};
+ghost use Rattle.judge.specs.Stages.{codeKey, ruleKey, signKey, tableSize, sought, borneBy, markCode, codesBorne, tests, testAt, valuesMet, rowMatches, markRow, rowsMatched, ruleMatches, markRule, rulesMatched, firstRule, typeApplies, nameType, typesNamed, decided, verdict, rulesOn, judgedBy};
+use meaning::Deciding;
+use meaning::Verdict;
+use places::Period;
+use places::RestrictionType;
+use places::Row;
+use places::Rule;
+
+// What is asked. Role is the instructing party's type; an empty field is 0.
+pub struct Question {
+    pub csd: u8,
+    pub day: u32,
+    pub object: u8,
+    pub role: u32,
+    pub movement: u32,
+    pub payment: u32,
+    pub transaction: u32,
+    pub currency: u32,
+    pub party: u32,
+    pub account: u32,
+    pub security: u32,
+}
+
+// Tests, without branches for whoever calls them.
+
+fn and(a: bool, b: bool) -> bool
+    ensures { λ r. ⌜ r ≡ (a && b) ⌝ }
+{
+    if a { b } else { false }
+}
+
+fn or(a: bool, b: bool) -> bool
+    ensures { λ r. ⌜ r ≡ (a || b) ⌝ }
+{
+    if a { true } else { b }
+}
+
+fn no(a: bool) -> bool
+    ensures { λ r. ⌜ r ≡ not a ⌝ }
+{
+    if a { false } else { true }
+}
+
+fn pick(a: bool, x: u8, y: u8) -> u8
+    ensures { λ r. ⌜ r ≡ cond a x y ⌝ }
+{
+    if a { x } else { y }
+}
+
+fn pick_number(a: bool, x: u32, y: u32) -> u32
+    ensures { λ r. ⌜ r ≡ cond a x y ⌝ }
+{
+    if a { x } else { y }
+}
+
+// First and last day both count.
+fn covers(first: u32, last: u32, day: u32) -> bool
+    ensures { λ r. ⌜ r ≡ covers first last day ⌝ }
+{
+    and(first <= day, day <= last)
+}
+
+// The smaller of two numbers, where 0 stands for none.
+fn lesser(a: u8, b: u8) -> u8
+    ensures { λ r. ⌜ r ≡ lesser a b ⌝ }
+{
+    if a == 0 {
+        return b;
+    }
+    if b == 0 {
+        return a;
+    }
+    if a < b { a } else { b }
+}
+
+// Tables of numbers, addressed by key.
+
+fn code_key(code: u32, kind: u8) -> usize
+    ensures { λ r. ⌜ r ≡ codeKey code kind ⌝ }
+{
+    code as usize * 4 + kind as usize
+}
+
+fn rule_key(number: u8, sequence: u8) -> usize
+    ensures { λ r. ⌜ r ≡ ruleKey number sequence ⌝ }
+{
+    number as usize * 100 + sequence as usize
+}
+
+fn sign_key(number: u8, sequence: u16, sign: u8) -> usize
+    ensures { λ r. ⌜ r ≡ signKey number sequence sign ⌝ }
+{
+    (number as usize * 100 + sequence as usize) * 4 + sign as usize
+}
+
+fn processing_key(processing: u8) -> usize
+    ensures { λ r. ⌜ r ≡ processing ⌝ }
+{
+    processing as usize
+}
+
+// A table of marks without one. In a function of its own, so that no proof shows its cells.
+fn unmarked() -> [u8; 40000]
+    ensures { λ r. ⌜ Blank tableSize r ⌝ }
+{
+    [0; 40000]
+}
+
+// No type for any processing, 0 to 3.
+fn unnamed() -> [u8; 4]
+    ensures { λ r. ⌜ Blank 4 r ⌝ }
+{
+    [0; 4]
+}
+
+// The entry at a key, 0 past the end.
+fn look(t: &[u8], k: usize) -> u8
+    ensures { λ r. ⌜ r ≡ getD (now (t .entry)) k 0 ⌝ }
+{
+    if k < t.len() { t[k] } else { 0 }
+}
+
+fn is_marked(t: &[u8], k: usize) -> bool
+    ensures { λ r. ⌜ r ≡ marked (now (t .entry)) k ⌝ }
+{
+    look(t, k) == 1
+}
+
+// The lower of a number and the entry at a key, where 0 stands for none.
+fn lower(t: &[u8], k: usize, number: u8) -> u8
+    ensures { λ r. ⌜ r ≡ lesser number (getD (now (t .entry)) k 0) ⌝ }
+{
+    lesser(number, look(t, k))
+}
+
+// Stores a number at a key, if asked to, and nothing past the end.
+fn store(t: &mut [u8], k: usize, on: bool, v: u8)
+    ensures { λ _. ⌜ now (t .exit) ≡ cond on (set (now (t .entry)) k v) (now (t .entry)) ⌝ }
+{
+    if on {
+        if k < t.len() {
+            t[k] = v;
+        }
+    }
+}
+
+// 1. The codes that the question's party, account and security bear on the day.
+
+// The question's number of a kind: 1 party, 2 account, 3 security.
+fn sought(q: Question, kind: u8) -> u32
+    ensures { λ r. ⌜ r ≡ sought q kind ⌝ }
+{
+    pick_number(
+        kind == 1,
+        q.party,
+        pick_number(kind == 2, q.account, q.security),
+    )
+}
+
+fn borne_by(q: Question, p: Period) -> bool
+    ensures { λ r. ⌜ r ≡ borneBy q p ⌝ }
+{
+    and(
+        p.number == sought(q, p.kind),
+        covers(p.first, p.last, q.day),
+    )
+}
+
+fn mark_code(t: &mut [u8], b: &[u8], q: Question, i: u16)
+    ensures { λ _. ⌜ now (t .exit) ≡ markCode (now (b .entry)) q i (now (t .entry)) ⌝ }
+{
+    if places::period_csd(b, i) == q.csd {
+        let p = places::period_at(b, i);
+        store(t, code_key(p.code, p.kind), borne_by(q, p), 1);
+    }
+}
+
+fn codes_borne(b: &[u8], q: Question) -> [u8; 40000]
+    ensures { λ r. ⌜ marked r ≡ codesBorne (now (b .entry)) q ⌝ }
+{
+    let mut t = unmarked();
+    for i in 0..Period::PLACES {
+        mark_code(&mut t, b, q, i);
+    }
+    t
+}
+
+// 2. The rules of which a row matches.
+
+// Whether the question meets a value at a criterion.
+fn criterion_met(i: u8, v: u32, q: Question, codes: &[u8]) -> bool
+    ensures { λ r. ⌜ r ≡ testAt (tests q (marked (now (codes .entry)))) i v ⌝ }
+{
+    match i {
+        0 => q.role == v,
+        1 => q.movement == v,
+        2 => q.payment == v,
+        3 => q.transaction == v,
+        4 => q.security == v,
+        5 => q.account == v,
+        6 => is_marked(codes, code_key(v, 1)),
+        7 => is_marked(codes, code_key(v, 2)),
+        8 => is_marked(codes, code_key(v, 3)),
+        9 => q.currency == v,
+        _ => false,
+    }
+}
+
+// Whether each filled value is met.
+fn values_met(values: [u32; 10], q: Question, codes: &[u8]) -> bool
+    ensures { λ r. ⌜ r ≡ valuesMet (tests q (marked (now (codes .entry)))) values ⌝ }
+{
+    let mut met = true;
+    for i in 0..10 {
+        let v = values[i as usize];
+        met = and(met, or(v == 0, criterion_met(i, v, q, codes)));
+    }
+    met
+}
+
+fn row_matches(q: Question, codes: &[u8], w: Row) -> bool
+    ensures { λ r. ⌜ r ≡ rowMatches q (marked (now (codes .entry))) w ⌝ }
+{
+    let values = w.values;
+    and(w.object == q.object, values_met(values, q, codes))
+}
+
+fn mark_row(t: &mut [u8], b: &[u8], q: Question, codes: &[u8], i: u16)
+    ensures { λ _. ⌜ now (t .exit) ≡ markRow (now (b .entry)) q (marked (now (codes .entry))) i (now (t .entry)) ⌝ }
+{
+    if places::row_csd(b, i) == q.csd {
+        let w = places::row_at(b, i);
+        store(
+            t,
+            rule_key(w.number, w.sequence),
+            row_matches(q, codes, w),
+            1,
+        );
+    }
+}
+
+fn rows_matched(b: &[u8], q: Question, codes: &[u8]) -> [u8; 40000]
+    ensures { λ r. ⌜ marked r ≡ rowsMatched (now (b .entry)) q (marked (now (codes .entry))) ⌝ }
+{
+    let mut t = unmarked();
+    for i in 0..Row::PLACES {
+        mark_row(&mut t, b, q, codes, i);
+    }
+    t
+}
+
+// 3. The rules of each sign that match.
+
+fn rule_matches(q: Question, rows: &[u8], r: Rule) -> bool
+    ensures { λ x. ⌜ x ≡ ruleMatches q (marked (now (rows .entry))) r ⌝ }
+{
+    let current = covers(r.first, r.last, q.day);
+    let matched = is_marked(rows, rule_key(r.number, r.sequence));
+    and(r.object == q.object, and(current, matched))
+}
+
+fn mark_rule(t: &mut [u8], b: &[u8], q: Question, rows: &[u8], i: u16)
+    ensures { λ _. ⌜ now (t .exit) ≡ markRule (now (b .entry)) q (marked (now (rows .entry))) i (now (t .entry)) ⌝ }
+{
+    if places::rule_csd(b, i) == q.csd {
+        let r = places::rule_at(b, i);
+        let sequence = r.sequence as u16;
+        let key = sign_key(r.number, sequence, r.sign);
+        store(t, key, rule_matches(q, rows, r), 1);
+    }
+}
+
+fn rules_matched(b: &[u8], q: Question, rows: &[u8]) -> [u8; 40000]
+    ensures { λ r. ⌜ marked r ≡ rulesMatched (now (b .entry)) q (marked (now (rows .entry))) ⌝ }
+{
+    let mut t = unmarked();
+    for i in 0..Rule::PLACES {
+        mark_rule(&mut t, b, q, rows, i);
+    }
+    t
+}
+
+// 4. The rules of a type, looked through in rising sequence.
+
+// The first rule of a type and sign that matches, 0 where none does.
+fn first_rule(rules: &[u8], number: u8, sign: u8) -> u8
+    ensures { λ r. ⌜ r ≡ firstRule (marked (now (rules .entry))) number sign ⌝ }
+{
+    let mut x: u8 = 0;
+    for s in 0..100 {
+        let key = sign_key(number, s as u16, sign);
+        x = lesser(pick(is_marked(rules, key), s, 0), x);
+    }
+    x
+}
+
+// 5. The lowest type of each processing.
+
+// A current type, of which a positive rule matches and no negative one does, wherever it stands in sequence.
+fn type_applies(q: Question, rules: &[u8], t: RestrictionType) -> bool
+    ensures { λ r. ⌜ r ≡ typeApplies q (marked (now (rules .entry))) t ⌝ }
+{
+    if and(t.object == q.object, covers(t.first, t.last, q.day)) {
+        let positive = first_rule(rules, t.number, 1);
+        let negative = first_rule(rules, t.number, 2);
+        and(no(positive == 0), negative == 0)
+    } else {
+        false
+    }
+}
+
+fn name_type(t: &mut [u8], b: &[u8], q: Question, rules: &[u8], i: u16)
+    ensures { λ _. ⌜ now (t .exit) ≡ nameType (now (b .entry)) q (marked (now (rules .entry))) i (now (t .entry)) ⌝ }
+{
+    if places::type_csd(b, i) == q.csd {
+        let r = places::type_at(b, i);
+        let k = processing_key(r.processing);
+        let lowest = lower(t, k, r.number);
+        store(t, k, type_applies(q, rules, r), lowest);
+    }
+}
+
+fn types_named(b: &[u8], q: Question, rules: &[u8]) -> [u8; 4]
+    ensures { λ r. ⌜ (λ k. getD r k 0) ≡ typesNamed (now (b .entry)) q (marked (now (rules .entry))) ⌝ }
+{
+    let mut t = unnamed();
+    for i in 0..RestrictionType::PLACES {
+        name_type(&mut t, b, q, rules, i);
+    }
+    t
+}
+
+// A type, if any, with its deciding rule.
+fn decided(rules: &[u8], number: u8) -> Deciding
+    ensures { λ r. ⌜ r ≡ decided (marked (now (rules .entry))) number ⌝ }
+{
+    if number == 0 {
+        return Deciding {
+            number: 0,
+            sequence: 0,
+        };
+    }
+    Deciding {
+        number,
+        sequence: first_rule(rules, number, 1),
+    }
+}
+
+// Rejection comes first, and a rejected instruction shows no hold.
+fn verdict(rules: &[u8], named: &[u8]) -> Verdict
+    ensures { λ r. ⌜ r ≡ verdict (marked (now (rules .entry))) (λ k. getD (now (named .entry)) k 0) ⌝ }
+{
+    let rejecting = look(named, 1);
+    let accepted = rejecting == 0;
+    let validation = pick(accepted, look(named, 2), 0);
+    let party = pick(accepted, look(named, 3), 0);
+    Verdict {
+        rejected: no(accepted),
+        rejection: decided(rules, rejecting),
+        validation: decided(rules, validation),
+        party: decided(rules, party),
+    }
+}
+
+// The rules that match the question.
+fn rules_on(b: &[u8], q: Question) -> [u8; 40000]
+    ensures { λ r. ⌜ marked r ≡ rulesOn (now (b .entry)) q ⌝ }
+{
+    let codes = codes_borne(b, q);
+    let rows = rows_matched(b, q, &codes);
+    rules_matched(b, q, &rows)
+}
+
+// The verdict on a question, for any bytes; over a sound book it is the written meaning's (proofs/Right.antt).
+pub fn judge(book: &[u8], q: Question) -> Verdict
+    ensures { λ r. ⌜ r ≡ judgedBy (now (book .entry)) q ⌝ }
+{
+    let rules = rules_on(book, q);
+    let named = types_named(book, q, &rules);
+    verdict(&rules, &named)
+}

@@ -1,0 +1,9 @@
+pub mod Walk
+pub mod Capped
+pub mod Padding
+pub mod TableRule
+pub mod Rows
+pub mod Readings
+pub mod Callers
+pub mod Printings
+pub mod Splitting

@@ -1,0 +1,90 @@
+-- A row of numbers with zeros after them reads as the numbers do.
+use Prim.Native.Nat.{ℕ, zero, suc, _<_}
+use mathlib.Core.Path.{_≡_, refl, ap, sym, _∙_}
+use mathlib.Core.List.{List, [], _∷_}
+use native.Mathlib.Omega.{arith}
+use lib.ListN.{length, getD, replicate, set}
+use lib.Seq.{sets}
+use Rattle.meaning.specs.Forms.{
+  Letter,
+  letterT,
+  letterE,
+  letterR,
+  letterO,
+  letterD,
+  letterM,
+  letterN,
+  letterA,
+  letterZ,
+  letterQ,
+}
+use Rattle.meaning.specs.Records.{commandOf}
+use Rattle.line.specs.Line.{padded}
+
+pub padded-at : (n : ℕ) (ns : List ℕ) (i : ℕ) → i < n → getD (padded n ns) i 0 ≡ getD ns i 0
+unfolding padded
+padded-at zero ns i h = absurd (omega arith)
+padded-at (suc n) [] zero h = refl
+padded-at (suc n) [] (suc i) h = padded-at n [] i (omega arith)
+padded-at (suc n) (x ∷ ns) zero h = refl
+padded-at (suc n) (x ∷ ns) (suc i) h = padded-at n ns i (omega arith)
+
+pub length-padded : (n : ℕ) (ns : List ℕ) → length (padded n ns) ≡ n
+unfolding padded
+length-padded zero ns = refl
+length-padded (suc n) [] = ap suc (length-padded n [])
+length-padded (suc n) (x ∷ ns) = ap suc (length-padded n ns)
+
+padded-none : (n : ℕ) → padded n [] ≡ replicate n 0
+unfolding padded
+padded-none zero = refl
+padded-none (suc n) = rw (padded-none n)
+
+sets-later : (ns : List ℕ) (x i : ℕ) (row : List ℕ) → sets (x ∷ row) (suc i) ns ≡ x ∷ sets row i ns
+sets-later [] x i row = refl
+sets-later (n ∷ ns) x i row = sets-later ns x (suc i) (set row i n)
+
+sets-nothing : (ns : List ℕ) (i : ℕ) → sets [] i ns ≡ []
+sets-nothing [] i = refl
+sets-nothing (n ∷ ns) i = sets-nothing ns (suc i)
+
+-- numbers stored one after the other in a row of zeros
+pub sets-padded : (n : ℕ) (ns : List ℕ) → sets (replicate n 0) 0 ns ≡ padded n ns
+unfolding padded
+sets-padded n [] = sym (padded-none n)
+sets-padded zero (x ∷ ns) = sets-nothing ns 1
+sets-padded (suc n) (x ∷ ns) = sets-later ns x 0 (replicate n 0) ∙ ap (λ l. x ∷ l) (sets-padded n ns)
+
+-- What a line asks is the same by the row of sixteen as by the fields' numbers.
+pub command-padded : (l : Letter) (ns : List ℕ) → commandOf l (padded 16 ns) ≡ commandOf l ns
+unfolding commandOf
+command-padded letterT ns =
+    let h = padded-at 16 ns in
+    rw (h 1 (omega arith), h 2 (omega arith), h 3 (omega arith), h 4 (omega arith), h 5 (omega arith), h 6 (omega arith))
+command-padded letterE ns =
+    let h = padded-at 16 ns in
+    rw (h 1 (omega arith), h 2 (omega arith), h 3 (omega arith), h 4 (omega arith))
+command-padded letterR ns =
+    let h = padded-at 16 ns in
+    rw (h 1 (omega arith), h 2 (omega arith), h 3 (omega arith), h 4 (omega arith), h 5 (omega arith), h 6 (omega arith), h 7 (omega arith), h 8 (omega arith))
+command-padded letterO ns =
+    let h = padded-at 16 ns in
+    rw (h 2 (omega arith), h 3 (omega arith), h 4 (omega arith), h 5 (omega arith))
+command-padded letterD ns =
+    let h = padded-at 16 ns in
+    rw (h 2 (omega arith), h 3 (omega arith), h 4 (omega arith))
+command-padded letterM ns =
+    let h = padded-at 16 ns in
+    rw (h 2 (omega arith), h 3 (omega arith), h 4 (omega arith), h 5 (omega arith), h 6 (omega arith), h 7 (omega arith), h 8 (omega arith), h 9 (omega arith), h 10 (omega arith), h 11 (omega arith), h 12 (omega arith), h 13 (omega arith), h 14 (omega arith))
+command-padded letterN ns =
+    let h = padded-at 16 ns in
+    rw (h 2 (omega arith), h 3 (omega arith), h 4 (omega arith), h 5 (omega arith), h 6 (omega arith), h 7 (omega arith), h 8 (omega arith), h 9 (omega arith), h 10 (omega arith), h 11 (omega arith), h 12 (omega arith), h 13 (omega arith), h 14 (omega arith))
+command-padded letterA ns =
+    let h = padded-at 16 ns in
+    rw (h 1 (omega arith), h 2 (omega arith), h 3 (omega arith), h 4 (omega arith), h 5 (omega arith), h 6 (omega arith))
+command-padded letterZ ns =
+    let h = padded-at 16 ns in
+    rw (h 1 (omega arith), h 2 (omega arith), h 3 (omega arith), h 4 (omega arith), h 5 (omega arith), h 6 (omega arith))
+command-padded letterQ ns =
+    let h = padded-at 16 ns in
+    rw (h 1 (omega arith), h 2 (omega arith), h 3 (omega arith), h 4 (omega arith), h 5 (omega arith), h 6 (omega arith), h 7 (omega arith), h 8 (omega arith), h 9 (omega arith), h 10 (omega arith))

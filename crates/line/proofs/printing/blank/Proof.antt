@@ -1,0 +1,13 @@
+-- `line::printing::blank` meets its contract.
+use mathlib.Core.Path.{refl}
+use Rattle.line.specs.Line.{padded}
+use Rattle.line.specs.Printed.{printedAs}
+use Rattle.line.proofs.printing.blank.Statement.{statement}
+use Rattle.line.proofs.printing.blank.Tie as tie
+
+pub blank-spec : {M : Type 1} → statement M
+unfolding printedAs padded
+blank-spec =
+    tie.close
+    (tie.spec
+    (λ c. refl))

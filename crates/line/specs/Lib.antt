@@ -1,0 +1,5 @@
+pub mod Values
+pub mod Table
+pub mod Line
+pub mod Printed
+pub mod Parts

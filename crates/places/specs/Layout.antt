@@ -1,0 +1,106 @@
+-- The book's four tables: where each place starts, the numbers that stand there, and the record that they are.
+-- Written by tools/places.py.
+use Prim.Native.Nat.{ℕ, _+_, _*_}
+use mathlib.Core.List.{List, [], _∷_}
+use lib.ListN.{getD, drop, replicate}
+use Rattle.tables.specs.Bytes.{Width, one, two, three, four, numbers, bytesOf, puts}
+use Rattle.places.specs.declared.RestrictionType.{RestrictionType}
+use Rattle.places.specs.declared.Rule.{Rule}
+use Rattle.places.specs.declared.Row.{Row}
+use Rattle.places.specs.declared.Period.{Period}
+
+-- the book's size
+abbrev pub bookSize : ℕ
+bookSize = 51200
+
+-- ---- 128 places of 12 bytes, from 0
+
+abbrev pub typeStart : ℕ → ℕ
+typeStart i = i * 12
+
+abbrev pub typeWidths : List Width
+typeWidths = one ∷ one ∷ one ∷ one ∷ four ∷ four ∷ []
+
+abbrev pub typeFrom : List ℕ → RestrictionType
+typeFrom v = record { csd = getD v 0 0; number = getD v 1 0; object = getD v 2 0; processing = getD v 3 0; first = getD v 4 0; last = getD v 5 0 }
+
+abbrev pub typeNumbers : RestrictionType → List ℕ
+typeNumbers r = r .csd ∷ r .number ∷ r .object ∷ r .processing ∷ r .first ∷ r .last ∷ []
+
+unfoldable pub typeAt : List ℕ → ℕ → RestrictionType
+typeAt b i = typeFrom (numbers typeWidths b (typeStart i) 0)
+
+unfoldable pub putType : List ℕ → ℕ → RestrictionType → List ℕ
+putType b i r = puts b (typeStart i) 0 (bytesOf typeWidths (typeNumbers r))
+
+abbrev pub zeroType : RestrictionType
+zeroType = record { csd = 0; number = 0; object = 0; processing = 0; first = 0; last = 0 }
+
+-- ---- 512 places of 15 bytes, from 1536
+
+abbrev pub ruleStart : ℕ → ℕ
+ruleStart i = 1536 + i * 15
+
+abbrev pub ruleWidths : List Width
+ruleWidths = one ∷ one ∷ one ∷ one ∷ one ∷ two ∷ four ∷ four ∷ []
+
+abbrev pub ruleFrom : List ℕ → Rule
+ruleFrom v = record { csd = getD v 0 0; number = getD v 1 0; object = getD v 2 0; sequence = getD v 3 0; sign = getD v 4 0; criteria = getD v 5 0; first = getD v 6 0; last = getD v 7 0 }
+
+abbrev pub ruleNumbers : Rule → List ℕ
+ruleNumbers r = r .csd ∷ r .number ∷ r .object ∷ r .sequence ∷ r .sign ∷ r .criteria ∷ r .first ∷ r .last ∷ []
+
+unfoldable pub ruleAt : List ℕ → ℕ → Rule
+ruleAt b i = ruleFrom (numbers ruleWidths b (ruleStart i) 0)
+
+unfoldable pub putRule : List ℕ → ℕ → Rule → List ℕ
+putRule b i r = puts b (ruleStart i) 0 (bytesOf ruleWidths (ruleNumbers r))
+
+abbrev pub zeroRule : Rule
+zeroRule = record { csd = 0; number = 0; object = 0; sequence = 0; sign = 0; criteria = 0; first = 0; last = 0 }
+
+-- ---- 1024 places of 26 bytes, from 9216
+
+abbrev pub rowStart : ℕ → ℕ
+rowStart i = 9216 + i * 26
+
+abbrev pub rowWidths : List Width
+rowWidths = one ∷ one ∷ one ∷ one ∷ one ∷ one ∷ one ∷ four ∷ three ∷ three ∷ two ∷ two ∷ two ∷ three ∷ []
+
+abbrev pub rowFrom : List ℕ → Row
+rowFrom v = record { csd = getD v 0 0; number = getD v 1 0; object = getD v 2 0; sequence = getD v 3 0; values = drop 4 v }
+
+abbrev pub rowNumbers : Row → List ℕ
+rowNumbers r = r .csd ∷ r .number ∷ r .object ∷ r .sequence ∷ getD (r .values) 0 0 ∷ getD (r .values) 1 0 ∷ getD (r .values) 2 0 ∷ getD (r .values) 3 0 ∷ getD (r .values) 4 0 ∷ getD (r .values) 5 0 ∷ getD (r .values) 6 0 ∷ getD (r .values) 7 0 ∷ getD (r .values) 8 0 ∷ getD (r .values) 9 0 ∷ []
+
+unfoldable pub rowAt : List ℕ → ℕ → Row
+rowAt b i = rowFrom (numbers rowWidths b (rowStart i) 0)
+
+unfoldable pub putRow : List ℕ → ℕ → Row → List ℕ
+putRow b i r = puts b (rowStart i) 0 (bytesOf rowWidths (rowNumbers r))
+
+abbrev pub zeroRow : Row
+zeroRow = record { csd = 0; number = 0; object = 0; sequence = 0; values = replicate 10 0 }
+
+-- ---- 1024 places of 15 bytes, from 35840
+
+abbrev pub periodStart : ℕ → ℕ
+periodStart i = 35840 + i * 15
+
+abbrev pub periodWidths : List Width
+periodWidths = one ∷ one ∷ three ∷ two ∷ four ∷ four ∷ []
+
+abbrev pub periodFrom : List ℕ → Period
+periodFrom v = record { csd = getD v 0 0; kind = getD v 1 0; number = getD v 2 0; code = getD v 3 0; first = getD v 4 0; last = getD v 5 0 }
+
+abbrev pub periodNumbers : Period → List ℕ
+periodNumbers r = r .csd ∷ r .kind ∷ r .number ∷ r .code ∷ r .first ∷ r .last ∷ []
+
+unfoldable pub periodAt : List ℕ → ℕ → Period
+periodAt b i = periodFrom (numbers periodWidths b (periodStart i) 0)
+
+unfoldable pub putPeriod : List ℕ → ℕ → Period → List ℕ
+putPeriod b i r = puts b (periodStart i) 0 (bytesOf periodWidths (periodNumbers r))
+
+abbrev pub zeroPeriod : Period
+zeroPeriod = record { csd = 0; kind = 0; number = 0; code = 0; first = 0; last = 0 }

@@ -1,0 +1,493 @@
+// The places of the book: reading and storing of a record by value. Written by tools/places.py.
+ghost use mathlib.Core.Path.{_≡_};
+ghost use Prim.Native.Nat.{_+_, _%_};
+ghost use lib.ListN.{set, getD};
+ghost use mathlib.Core.List.{[], _∷_};
+ghost use Rattle.tables.specs.Bytes.{byteAt, one, two, three, four, number, digits, bytesOf, puts};
+ghost use Rattle.places.specs.Layout.{typeAt, putType, zeroType, ruleAt, putRule, zeroRule, rowAt, putRow, zeroRow, periodAt, putPeriod, zeroPeriod};
+
+pub fn wide(x: u8) -> u32
+    ensures { λ r. ⌜ r ≡ x ⌝ }
+{
+    x as u32
+}
+
+fn low(v: u32) -> u8
+    ensures { λ r. ⌜ r ≡ v % 256 ⌝ }
+{
+    (v % 256) as u8
+}
+
+// The byte at an offset from a place, 0 past the end.
+fn byte_at(b: &[u8], at: u32, j: u32) -> u8
+    ensures { λ r. ⌜ r ≡ byteAt (now (b .entry)) (at + j) ⌝ }
+{
+    let i = at as usize + j as usize;
+    if i < b.len() { b[i] } else { 0 }
+}
+
+// Numbers of one to four bytes, lowest first.
+
+fn one_at(b: &[u8], at: u32, j: u16) -> u32
+    ensures { λ r. ⌜ r ≡ number one (now (b .entry)) at j ⌝ }
+{
+    wide(byte_at(b, at, j as u32))
+}
+
+fn two_at(b: &[u8], at: u32, j: u16) -> u32
+    ensures { λ r. ⌜ r ≡ number two (now (b .entry)) at j ⌝ }
+{
+    let k = j as u32;
+    let x0 = wide(byte_at(b, at, k));
+    let x1 = wide(byte_at(b, at, k + 1));
+    x0 + 256 * x1
+}
+
+fn three_at(b: &[u8], at: u32, j: u16) -> u32
+    ensures { λ r. ⌜ r ≡ number three (now (b .entry)) at j ⌝ }
+{
+    let k = j as u32;
+    let x0 = wide(byte_at(b, at, k));
+    let x1 = wide(byte_at(b, at, k + 1));
+    let x2 = wide(byte_at(b, at, k + 2));
+    x0 + 256 * x1 + 65536 * x2
+}
+
+fn four_at(b: &[u8], at: u32, j: u16) -> u32
+    ensures { λ r. ⌜ r ≡ number four (now (b .entry)) at j ⌝ }
+{
+    let k = j as u32;
+    let x0 = wide(byte_at(b, at, k));
+    let x1 = wide(byte_at(b, at, k + 1));
+    let x2 = wide(byte_at(b, at, k + 2));
+    let x3 = wide(byte_at(b, at, k + 3));
+    x0 + 256 * x1 + 65536 * x2 + 16777216 * x3
+}
+
+// Writes a byte at an offset from a place, and nothing past the end.
+fn put_byte(b: &mut [u8], at: u32, j: u32, v: u8)
+    ensures { λ r. ⌜ now (b .exit) ≡ set (now (b .entry)) (at + j) v ⌝ }
+{
+    let i = at as usize + j as usize;
+    if i < b.len() {
+        b[i] = v;
+    }
+}
+
+fn put_one(b: &mut [u8], at: u32, j: u16, v: u32)
+    ensures { λ r. ⌜ now (b .exit) ≡ puts (now (b .entry)) at j (digits one v) ⌝ }
+{
+    put_byte(b, at, j as u32, low(v));
+}
+
+fn put_two(b: &mut [u8], at: u32, j: u16, v: u32)
+    ensures { λ r. ⌜ now (b .exit) ≡ puts (now (b .entry)) at j (digits two v) ⌝ }
+{
+    let k = j as u32;
+    put_byte(b, at, k, low(v));
+    put_byte(b, at, k + 1, low(v / 256));
+}
+
+fn put_three(b: &mut [u8], at: u32, j: u16, v: u32)
+    ensures { λ r. ⌜ now (b .exit) ≡ puts (now (b .entry)) at j (digits three v) ⌝ }
+{
+    let k = j as u32;
+    put_byte(b, at, k, low(v));
+    put_byte(b, at, k + 1, low(v / 256));
+    put_byte(b, at, k + 2, low(v / 256 / 256));
+}
+
+fn put_four(b: &mut [u8], at: u32, j: u16, v: u32)
+    ensures { λ r. ⌜ now (b .exit) ≡ puts (now (b .entry)) at j (digits four v) ⌝ }
+{
+    let k = j as u32;
+    put_byte(b, at, k, low(v));
+    put_byte(b, at, k + 1, low(v / 256));
+    put_byte(b, at, k + 2, low(v / 256 / 256));
+    put_byte(b, at, k + 3, low(v / 256 / 256 / 256));
+}
+
+// The first four bytes of a place, and the first two. No function makes more than four stores: the search for a chain of five breaks off.
+fn put_head(b: &mut [u8], at: u32, x: u8, y: u8, z: u8, u: u8)
+    ensures { λ _. ⌜ now (b .exit) ≡ puts (now (b .entry)) at 0 (bytesOf (one ∷ one ∷ one ∷ one ∷ []) (x ∷ y ∷ z ∷ u ∷ [])) ⌝ }
+{
+    put_one(b, at, 0, wide(x));
+    put_one(b, at, 1, wide(y));
+    put_one(b, at, 2, wide(z));
+    put_one(b, at, 3, wide(u));
+}
+
+fn put_pair(b: &mut [u8], at: u32, x: u8, y: u8)
+    ensures { λ _. ⌜ now (b .exit) ≡ puts (now (b .entry)) at 0 (bytesOf (one ∷ one ∷ []) (x ∷ y ∷ [])) ⌝ }
+{
+    put_one(b, at, 0, wide(x));
+    put_one(b, at, 1, wide(y));
+}
+
+// A first and a last day.
+fn put_days(b: &mut [u8], at: u32, j: u8, first: u32, last: u32)
+    ensures { λ _. ⌜ now (b .exit) ≡ puts (now (b .entry)) at j (bytesOf (four ∷ four ∷ []) (first ∷ last ∷ [])) ⌝ }
+{
+    let k = j as u16;
+    put_four(b, at, k, first);
+    put_four(b, at, k + 4, last);
+}
+
+// A restriction type of a depository: what becomes of an object that its rules match.
+pub struct RestrictionType {
+    pub csd: u8,
+    pub number: u8,
+    pub object: u8,
+    pub processing: u8,
+    pub first: u32,
+    pub last: u32,
+}
+
+impl RestrictionType {
+    pub const QUOTA: u16 = 16;
+
+    pub const PLACES: u16 = 128;
+
+    // What stands at a free place.
+    pub fn zero() -> RestrictionType
+        ensures { λ r. ⌜ r ≡ zeroType ⌝ }
+    {
+        RestrictionType {
+            csd: 0,
+            number: 0,
+            object: 0,
+            processing: 0,
+            first: 0,
+            last: 0,
+        }
+    }
+
+    pub fn new(
+        csd: u8,
+        number: u8,
+        object: u8,
+        processing: u8,
+        first: u32,
+        last: u32,
+    ) -> RestrictionType
+        ensures { λ r. ⌜ r ≡ record { csd = csd; number = number; object = object; processing = processing; first = first; last = last } ⌝ }
+    {
+        RestrictionType {
+            csd,
+            number,
+            object,
+            processing,
+            first,
+            last,
+        }
+    }
+}
+
+// Whose the place is, 0 where it is free.
+pub fn type_csd(b: &[u8], i: u16) -> u8
+    ensures { λ r. ⌜ r ≡ typeAt (now (b .entry)) i .csd ⌝ }
+{
+    let at = (i as u32) * 12;
+    byte_at(b, at, 0)
+}
+
+pub fn type_at(b: &[u8], i: u16) -> RestrictionType
+    ensures { λ r. ⌜ r ≡ typeAt (now (b .entry)) i ⌝ }
+{
+    let at = (i as u32) * 12;
+    RestrictionType {
+        csd: byte_at(b, at, 0),
+        number: byte_at(b, at, 1),
+        object: byte_at(b, at, 2),
+        processing: byte_at(b, at, 3),
+        first: four_at(b, at, 4),
+        last: four_at(b, at, 8),
+    }
+}
+
+pub fn put_type(b: &mut [u8], i: u16, r: RestrictionType)
+    ensures { λ _. ⌜ now (b .exit) ≡ putType (now (b .entry)) i r ⌝ }
+{
+    let at = (i as u32) * 12;
+    put_head(b, at, r.csd, r.number, r.object, r.processing);
+    put_days(b, at, 4, r.first, r.last);
+}
+
+// A rule of a type, with the criteria that its rows fill.
+pub struct Rule {
+    pub csd: u8,
+    pub number: u8,
+    pub object: u8,
+    pub sequence: u8,
+    pub sign: u8,
+    pub criteria: u32,
+    pub first: u32,
+    pub last: u32,
+}
+
+impl Rule {
+    pub const QUOTA: u16 = 64;
+
+    pub const PLACES: u16 = 512;
+
+    // What stands at a free place.
+    pub fn zero() -> Rule
+        ensures { λ r. ⌜ r ≡ zeroRule ⌝ }
+    {
+        Rule {
+            csd: 0,
+            number: 0,
+            object: 0,
+            sequence: 0,
+            sign: 0,
+            criteria: 0,
+            first: 0,
+            last: 0,
+        }
+    }
+
+    pub fn new(
+        csd: u8,
+        number: u8,
+        object: u8,
+        sequence: u8,
+        sign: u8,
+        criteria: u32,
+        first: u32,
+        last: u32,
+    ) -> Rule
+        ensures { λ r. ⌜ r ≡ record { csd = csd; number = number; object = object; sequence = sequence; sign = sign; criteria = criteria; first = first; last = last } ⌝ }
+    {
+        Rule {
+            csd,
+            number,
+            object,
+            sequence,
+            sign,
+            criteria,
+            first,
+            last,
+        }
+    }
+}
+
+// Whose the place is, 0 where it is free.
+pub fn rule_csd(b: &[u8], i: u16) -> u8
+    ensures { λ r. ⌜ r ≡ ruleAt (now (b .entry)) i .csd ⌝ }
+{
+    let at = 1536 + (i as u32) * 15;
+    byte_at(b, at, 0)
+}
+
+pub fn rule_at(b: &[u8], i: u16) -> Rule
+    ensures { λ r. ⌜ r ≡ ruleAt (now (b .entry)) i ⌝ }
+{
+    let at = 1536 + (i as u32) * 15;
+    Rule {
+        csd: byte_at(b, at, 0),
+        number: byte_at(b, at, 1),
+        object: byte_at(b, at, 2),
+        sequence: byte_at(b, at, 3),
+        sign: byte_at(b, at, 4),
+        criteria: two_at(b, at, 5),
+        first: four_at(b, at, 7),
+        last: four_at(b, at, 11),
+    }
+}
+
+pub fn put_rule(b: &mut [u8], i: u16, r: Rule)
+    ensures { λ _. ⌜ now (b .exit) ≡ putRule (now (b .entry)) i r ⌝ }
+{
+    let at = 1536 + (i as u32) * 15;
+    put_head(b, at, r.csd, r.number, r.object, r.sequence);
+    put_one(b, at, 4, wide(r.sign));
+    put_two(b, at, 5, r.criteria);
+    put_days(b, at, 7, r.first, r.last);
+}
+
+// A row of a rule: its ten values, 0 where empty.
+pub struct Row {
+    pub csd: u8,
+    pub number: u8,
+    pub object: u8,
+    pub sequence: u8,
+    pub values: [u32; 10],
+}
+
+impl Row {
+    pub const QUOTA: u16 = 128;
+
+    pub const PLACES: u16 = 1024;
+
+    // What stands at a free place.
+    pub fn zero() -> Row
+        ensures { λ r. ⌜ r ≡ zeroRow ⌝ }
+    {
+        Row {
+            csd: 0,
+            number: 0,
+            object: 0,
+            sequence: 0,
+            values: [0; 10],
+        }
+    }
+
+    pub fn new(csd: u8, number: u8, object: u8, sequence: u8, values: [u32; 10]) -> Row
+        ensures { λ r. ⌜ r ≡ record { csd = csd; number = number; object = object; sequence = sequence; values = values } ⌝ }
+    {
+        Row {
+            csd,
+            number,
+            object,
+            sequence,
+            values,
+        }
+    }
+}
+
+// Whose the place is, 0 where it is free.
+pub fn row_csd(b: &[u8], i: u16) -> u8
+    ensures { λ r. ⌜ r ≡ rowAt (now (b .entry)) i .csd ⌝ }
+{
+    let at = 9216 + (i as u32) * 26;
+    byte_at(b, at, 0)
+}
+
+pub fn row_at(b: &[u8], i: u16) -> Row
+    ensures { λ r. ⌜ r ≡ rowAt (now (b .entry)) i ⌝ }
+{
+    let at = 9216 + (i as u32) * 26;
+    let values = [
+        one_at(b, at, 4),
+        one_at(b, at, 5),
+        one_at(b, at, 6),
+        four_at(b, at, 7),
+        three_at(b, at, 11),
+        three_at(b, at, 14),
+        two_at(b, at, 17),
+        two_at(b, at, 19),
+        two_at(b, at, 21),
+        three_at(b, at, 23),
+    ];
+    Row {
+        csd: byte_at(b, at, 0),
+        number: byte_at(b, at, 1),
+        object: byte_at(b, at, 2),
+        sequence: byte_at(b, at, 3),
+        values,
+    }
+}
+
+// Values 0 to 2 of a row.
+fn put_values_0(b: &mut [u8], at: u32, v: [u32; 10])
+    ensures { λ _. ⌜ now (b .exit) ≡ puts (now (b .entry)) at 4 (bytesOf (one ∷ one ∷ one ∷ []) (getD v 0 0 ∷ getD v 1 0 ∷ getD v 2 0 ∷ [])) ⌝ }
+{
+    put_one(b, at, 4, v[0]);
+    put_one(b, at, 5, v[1]);
+    put_one(b, at, 6, v[2]);
+}
+
+// Values 3 to 5 of a row.
+fn put_values_3(b: &mut [u8], at: u32, v: [u32; 10])
+    ensures { λ _. ⌜ now (b .exit) ≡ puts (now (b .entry)) at 7 (bytesOf (four ∷ three ∷ three ∷ []) (getD v 3 0 ∷ getD v 4 0 ∷ getD v 5 0 ∷ [])) ⌝ }
+{
+    put_four(b, at, 7, v[3]);
+    put_three(b, at, 11, v[4]);
+    put_three(b, at, 14, v[5]);
+}
+
+// Values 6 to 9 of a row.
+fn put_values_6(b: &mut [u8], at: u32, v: [u32; 10])
+    ensures { λ _. ⌜ now (b .exit) ≡ puts (now (b .entry)) at 17 (bytesOf (two ∷ two ∷ two ∷ three ∷ []) (getD v 6 0 ∷ getD v 7 0 ∷ getD v 8 0 ∷ getD v 9 0 ∷ [])) ⌝ }
+{
+    put_two(b, at, 17, v[6]);
+    put_two(b, at, 19, v[7]);
+    put_two(b, at, 21, v[8]);
+    put_three(b, at, 23, v[9]);
+}
+
+pub fn put_row(b: &mut [u8], i: u16, r: Row)
+    ensures { λ _. ⌜ now (b .exit) ≡ putRow (now (b .entry)) i r ⌝ }
+{
+    let at = 9216 + (i as u32) * 26;
+    let values = r.values;
+    put_head(b, at, r.csd, r.number, r.object, r.sequence);
+    put_values_0(b, at, values);
+    put_values_3(b, at, values);
+    put_values_6(b, at, values);
+}
+
+// An attribute period: the days on which a party, an account or a security bears a code.
+pub struct Period {
+    pub csd: u8,
+    pub kind: u8,
+    pub number: u32,
+    pub code: u32,
+    pub first: u32,
+    pub last: u32,
+}
+
+impl Period {
+    pub const QUOTA: u16 = 128;
+
+    pub const PLACES: u16 = 1024;
+
+    // What stands at a free place.
+    pub fn zero() -> Period
+        ensures { λ r. ⌜ r ≡ zeroPeriod ⌝ }
+    {
+        Period {
+            csd: 0,
+            kind: 0,
+            number: 0,
+            code: 0,
+            first: 0,
+            last: 0,
+        }
+    }
+
+    pub fn new(csd: u8, kind: u8, number: u32, code: u32, first: u32, last: u32) -> Period
+        ensures { λ r. ⌜ r ≡ record { csd = csd; kind = kind; number = number; code = code; first = first; last = last } ⌝ }
+    {
+        Period {
+            csd,
+            kind,
+            number,
+            code,
+            first,
+            last,
+        }
+    }
+}
+
+// Whose the place is, 0 where it is free.
+pub fn period_csd(b: &[u8], i: u16) -> u8
+    ensures { λ r. ⌜ r ≡ periodAt (now (b .entry)) i .csd ⌝ }
+{
+    let at = 35840 + (i as u32) * 15;
+    byte_at(b, at, 0)
+}
+
+pub fn period_at(b: &[u8], i: u16) -> Period
+    ensures { λ r. ⌜ r ≡ periodAt (now (b .entry)) i ⌝ }
+{
+    let at = 35840 + (i as u32) * 15;
+    Period {
+        csd: byte_at(b, at, 0),
+        kind: byte_at(b, at, 1),
+        number: three_at(b, at, 2),
+        code: two_at(b, at, 5),
+        first: four_at(b, at, 7),
+        last: four_at(b, at, 11),
+    }
+}
+
+pub fn put_period(b: &mut [u8], i: u16, r: Period)
+    ensures { λ _. ⌜ now (b .exit) ≡ putPeriod (now (b .entry)) i r ⌝ }
+{
+    let at = 35840 + (i as u32) * 15;
+    put_pair(b, at, r.csd, r.kind);
+    put_three(b, at, 2, r.number);
+    put_two(b, at, 5, r.code);
+    put_days(b, at, 7, r.first, r.last);
+}

@@ -1,0 +1,51 @@
+-- What a line that was read does to a book: its answer and the bytes after it. Assumes nothing.
+use Prim.Native.Nat.{ℕ}
+use mathlib.Core.Path.{_≡_}
+use mathlib.Core.Bool.{cond}
+use mathlib.Core.List.{List}
+use lib.Dec.{eqb}
+use Rattle.meaning.specs.Records.{_!_}
+use Rattle.meaning.specs.Refusals.{refusal}
+use Rattle.meaning.specs.declared.Answer.{Answer}
+use Rattle.meaning.specs.declared.Answer.the-variants.{Taken, Refused, Judged}
+use Rattle.book.specs.Lone.{loneBook}
+use Rattle.edits.specs.Asked.{byte, commandIn}
+use Rattle.edits.specs.Edit.{editIn}
+use Rattle.judge.specs.Stages.{judgedBy}
+use Rattle.judge.specs.declared.Question.{Question}
+use Rattle.line.specs.declared.reading.Line.{Line}
+
+-- the question that a Q line's numbers ask
+unfoldable pub questionFrom : List ℕ → Question
+questionFrom v = record {
+  csd = byte v 0;
+  day = v ! 1;
+  object = byte v 2;
+  role = v ! 3;
+  movement = v ! 4;
+  payment = v ! 5;
+  transaction = v ! 6;
+  currency = v ! 7;
+  party = v ! 8;
+  account = v ! 9;
+  security = v ! 10;
+}
+
+-- refusals 6 to 10; 0 for none
+unfoldable pub refusalOf : List ℕ → Line → ℕ
+refusalOf b l = refusal (loneBook (byte (l .values) 0) b) (commandIn (l .letter) (l .values))
+
+-- Q is at place 9 of the table of letters
+unfoldable pub answerOf : List ℕ → Line → Answer
+answerOf b l =
+    cond (eqb (l .letter) 9) (Judged (judgedBy b (questionFrom (l .values))))
+    (cond (eqb (refusalOf b l) 0) Taken (Refused (refusalOf b l)))
+
+unfoldable pub bytesOf : List ℕ → Line → List ℕ
+bytesOf b l =
+    cond (eqb (l .letter) 9) b
+    (cond (eqb (refusalOf b l) 0) (editIn b (byte (l .values) 0) (commandIn (l .letter) (l .values))) b)
+
+pub record Took (before : List ℕ) (l : Line) (answer : Answer) (after : List ℕ) : Type 0 where
+  pub answered : answer ≡ answerOf before l
+  pub bytes : after ≡ bytesOf before l

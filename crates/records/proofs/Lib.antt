@@ -1,0 +1,4 @@
+pub mod Ten
+pub mod Filled
+pub mod Meets
+pub mod Nobody

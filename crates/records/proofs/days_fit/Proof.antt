@@ -1,0 +1,16 @@
+-- `records::days_fit` meets its contract. Assumes nothing.
+use Rattle.meaning.specs.Sound.{daysFit}
+use borrow.Author.Needs.{needs}
+use Rattle.records.proofs.days_fit.Statement.{statement}
+use Rattle.records.proofs.days_fit.Tie as tie
+
+pub days-fit-spec : {M : Type 1} → statement M
+unfolding daysFit
+days-fit-spec =
+    tie.close
+    (tie.spec
+    (λ c κs. search needs)
+    (λ c κs. search needs)
+    (λ c κs. search needs)
+    (λ c κs. search needs)
+    (λ c. cc))

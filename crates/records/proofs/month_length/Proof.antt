@@ -1,0 +1,13 @@
+-- `records::month_length` meets its contract. Assumes nothing.
+use borrow.Author.Needs.{needs}
+use Rattle.records.proofs.month_length.Statement.{statement}
+use Rattle.records.proofs.month_length.Tie as tie
+
+pub month-length-spec : {M : Type 1} → statement M
+month-length-spec =
+    tie.close
+    (tie.spec
+    (λ c κs. search needs)
+    (λ c κs. search needs)
+    (λ c κs. search needs)
+    (λ c. cc))

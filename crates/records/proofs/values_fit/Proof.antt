@@ -1,0 +1,23 @@
+-- `records::values_fit` meets its contract. Assumes nothing.
+use Rattle.meaning.specs.Forms.{holds}
+use Rattle.records.proofs.Ten.{ten-fit}
+use borrow.Author.Needs.{needs}
+use Rattle.records.proofs.values_fit.Statement.{statement}
+use Rattle.records.proofs.values_fit.Tie as tie
+
+pub values-fit-spec : {M : Type 1} → statement M
+unfolding holds
+values-fit-spec =
+    tie.close
+    (tie.spec
+    (λ c. search needs)
+    (λ c κs. search needs)
+    (λ c κs. search needs)
+    (λ c κs. search needs)
+    (λ c. search needs)
+    (λ c κs. search needs)
+    (λ c. search needs)
+    (λ c κs. search needs)
+    (λ c κs. search needs)
+    (λ c κs. search needs)
+    (λ c. search ten-fit))

@@ -1,0 +1,4 @@
+pub mod Said
+pub mod Criteria
+pub mod Asks
+pub mod Free

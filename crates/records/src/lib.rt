@@ -1,0 +1,529 @@
+// Records by value: their ranges, whether a place is free, and what is asked of them.
+ghost use mathlib.Core.Path.{_≡_};
+ghost use mathlib.Core.Bool.{_||_, _&&_, not, cond};
+ghost use Prim.Native.Nat.{_+_, _≤_};
+ghost use lib.Dec.{eqb, ltb};
+ghost use lib.ListN.{getD};
+ghost use Rattle.tables.specs.Count.{bit, allBelow};
+ghost use Rattle.meaning.specs.Fields.{within, isCapital};
+ghost use Rattle.meaning.specs.Forms.{holds, holdsAll, optional, upTo, day, code, transactionForm, currencyForm, isWord, months, monthLength, tenValues};
+ghost use Rattle.meaning.specs.Keys.{sameNumbers, filled, isType, isRule, ofRule, isRow, isPeriod, clash};
+ghost use Rattle.meaning.specs.Refusals.{typeOutside, periodOutside, otherCriteria, outside};
+ghost use Rattle.meaning.specs.Sound.{daysFit, keyFits, typeFits, ruleFits, rowFits, periodFits, fillsRule};
+ghost use Rattle.records.specs.Said.{typeOf, ruleOf, rowOf, periodOf};
+ghost use Rattle.records.specs.Criteria.{belongs, agrees, filledCount, codesFit, namesFit};
+ghost use Rattle.records.specs.Free.{typeZero, ruleZero, rowZero, periodZero};
+ghost use Rattle.records.specs.Asks.{typeMeets, ruleMeets, rowMeets, periodMeets};
+use places::Period;
+use places::RestrictionType;
+use places::Row;
+use places::Rule;
+
+// ---- What is asked of a record.
+
+// Outside: the type of that number and object, whose days do not hold the new last day.
+pub enum TypeAsk {
+    Any,
+    Named(u8, u8),
+    Outside(u8, u8, u32),
+}
+
+// Fills and Other: the rule of the row beside, with exactly the criteria that the row fills, or with others.
+pub enum RuleAsk {
+    Any,
+    Named(u8, u8, u8),
+    Fills,
+    Other,
+}
+
+// Same and OfRule: the row beside, and the rows of its rule.
+pub enum RowAsk {
+    Any,
+    Same,
+    OfRule,
+}
+
+// Clash: of that kind, number and attribute, and shares a day.
+pub enum PeriodAsk {
+    Any,
+    Clash(Period),
+    Named(u8, u32, u32, u32),
+    Outside(u8, u32, u32, u32, u32),
+}
+
+// ---- Tests, without branches for whoever calls them.
+
+pub fn and(a: bool, b: bool) -> bool
+    ensures { λ r. ⌜ r ≡ (a && b) ⌝ }
+{
+    if a { b } else { false }
+}
+
+pub fn or(a: bool, b: bool) -> bool
+    ensures { λ r. ⌜ r ≡ (a || b) ⌝ }
+{
+    if a { true } else { b }
+}
+
+pub fn no(a: bool) -> bool
+    ensures { λ r. ⌜ r ≡ not a ⌝ }
+{
+    if a { false } else { true }
+}
+
+pub fn one_if(a: bool) -> u16
+    ensures { λ r. ⌜ (r ≡ bit a) × (r ≤ 1) ⌝ }
+{
+    if a { 1 } else { 0 }
+}
+
+pub fn pick(a: bool, x: u16, y: u16) -> u16
+    ensures { λ r. ⌜ r ≡ cond a x y ⌝ }
+{
+    if a { x } else { y }
+}
+
+pub fn inside(low: u32, x: u32, high: u32) -> bool
+    ensures { λ r. ⌜ r ≡ within low high x ⌝ }
+{
+    and(low <= x, x <= high)
+}
+
+pub fn small(low: u8, x: u8, high: u8) -> bool
+    ensures { λ r. ⌜ r ≡ within low high x ⌝ }
+{
+    and(low <= x, x <= high)
+}
+
+// ---- Ranges (document 01, 'Lines').
+
+const MONTHS: [u16; 13] = [0, 31, 28, 31, 30, 31, 30, 31, 31, 30, 31, 30, 31];
+
+fn common_month(month: u32) -> u16
+    ensures { λ r. ⌜ r ≡ getD months month 0 ⌝ }
+{
+    let i = month as usize;
+    if i < 13 { MONTHS[i] } else { 0 }
+}
+
+// A year is leap when 4 divides it.
+fn month_length(year: u32, month: u32) -> u16
+    ensures { λ r. ⌜ r ≡ monthLength year month ⌝ }
+{
+    pick(and(month == 2, year % 4 == 0), 29, common_month(month))
+}
+
+// A real calendar date from 2000 to 2099, as eight digits.
+pub fn is_day(n: u32) -> bool
+    ensures { λ r. ⌜ r ≡ holds day n ⌝ }
+{
+    let year = n / 10000;
+    let month = n / 100 % 100;
+    let days = inside(1, n % 100, month_length(year, month) as u32);
+    and(inside(2000, year, 2099), and(inside(1, month, 12), days))
+}
+
+// First is not after last.
+fn days_fit(first: u32, last: u32) -> bool
+    ensures { λ r. ⌜ r ≡ daysFit first last ⌝ }
+{
+    and(is_day(first), and(is_day(last), first <= last))
+}
+
+fn key_fits(number: u8, object: u8) -> bool
+    ensures { λ r. ⌜ r ≡ keyFits number object ⌝ }
+{
+    and(small(1, number, 99), small(1, object, 2))
+}
+
+// Processing 3 is of object 1 only.
+pub fn type_fits(t: RestrictionType) -> bool
+    ensures { λ r. ⌜ r ≡ typeFits (typeOf t) ⌝ }
+{
+    let held = no(and(t.processing == 3, t.object == 2));
+    let days = days_fit(t.first, t.last);
+    and(
+        key_fits(t.number, t.object),
+        and(and(small(1, t.processing, 3), held), days),
+    )
+}
+
+pub fn rule_fits(t: Rule) -> bool
+    ensures { λ r. ⌜ r ≡ ruleFits (ruleOf t) ⌝ }
+{
+    let key = and(key_fits(t.number, t.object), small(1, t.sequence, 99));
+    let says = and(small(1, t.sign, 2), inside(1, t.criteria, 1023));
+    and(key, and(says, days_fit(t.first, t.last)))
+}
+
+fn capital(n: u32) -> bool
+    ensures { λ r. ⌜ r ≡ isCapital n ⌝ }
+{
+    inside(65, n, 90)
+}
+
+// The number of three capital letters, and of four.
+fn three_letters(n: u32) -> bool
+    ensures { λ r. ⌜ r ≡ isWord 3 n ⌝ }
+{
+    let rest = and(capital(n / 256 / 256 % 256), n / 256 / 256 / 256 == 0);
+    and(capital(n % 256), and(capital(n / 256 % 256), rest))
+}
+
+fn four_letters(n: u32) -> bool
+    ensures { λ r. ⌜ r ≡ isWord 4 n ⌝ }
+{
+    and(capital(n % 256), three_letters(n / 256))
+}
+
+// Attribute × 100 + value, each 1 to 99.
+pub fn is_code(n: u32) -> bool
+    ensures { λ r. ⌜ r ≡ holds code n ⌝ }
+{
+    and(inside(1, n / 100, 99), inside(1, n % 100, 99))
+}
+
+// A value of a row is 0 where it is empty.
+
+fn up_to_or(n: u32, most: u32) -> bool
+    ensures { λ r. ⌜ r ≡ holds (optional (upTo most)) n ⌝ }
+{
+    or(n == 0, inside(1, n, most))
+}
+
+fn code_or(n: u32) -> bool
+    ensures { λ r. ⌜ r ≡ holds (optional code) n ⌝ }
+{
+    or(n == 0, is_code(n))
+}
+
+fn transaction_or(n: u32) -> bool
+    ensures { λ r. ⌜ r ≡ holds (optional transactionForm) n ⌝ }
+{
+    or(n == 0, four_letters(n))
+}
+
+fn currency_or(n: u32) -> bool
+    ensures { λ r. ⌜ r ≡ holds (optional currencyForm) n ⌝ }
+{
+    or(n == 0, three_letters(n))
+}
+
+// The three codes and the currency; transaction, security and account before them; party type, movement and payment before these.
+
+fn codes_fit(v: [u32; 10]) -> bool
+    ensures { λ r. ⌜ r ≡ codesFit v ⌝ }
+{
+    let rest = and(code_or(v[8]), and(currency_or(v[9]), true));
+    and(code_or(v[6]), and(code_or(v[7]), rest))
+}
+
+fn names_fit(v: [u32; 10]) -> bool
+    ensures { λ r. ⌜ r ≡ namesFit v ⌝ }
+{
+    let rest = and(up_to_or(v[5], 999999), codes_fit(v));
+    and(transaction_or(v[3]), and(up_to_or(v[4], 999999), rest))
+}
+
+fn values_fit(v: [u32; 10]) -> bool
+    ensures { λ r. ⌜ r ≡ holdsAll tenValues v ⌝ }
+{
+    let rest = and(up_to_or(v[2], 2), names_fit(v));
+    and(up_to_or(v[0], 3), and(up_to_or(v[1], 2), rest))
+}
+
+pub fn row_fits(t: Row) -> bool
+    ensures { λ r. ⌜ r ≡ rowFits (rowOf t) ⌝ }
+{
+    let v = t.values;
+    let key = and(key_fits(t.number, t.object), small(1, t.sequence, 99));
+    and(key, values_fit(v))
+}
+
+pub fn period_fits(t: Period) -> bool
+    ensures { λ r. ⌜ r ≡ periodFits (periodOf t) ⌝ }
+{
+    let of = and(small(1, t.kind, 3), inside(1, t.number, 999999));
+    and(of, and(is_code(t.code), days_fit(t.first, t.last)))
+}
+
+// ---- The criteria that a row fills (document 01, 'Records').
+
+// Criterion i belongs to the criteria.
+pub fn belongs(criteria: u32, i: u8) -> bool
+    ensures { λ r. ⌜ r ≡ belongs criteria i ⌝ }
+{
+    if i < 32 {
+        criteria >> i & 1 == 1
+    } else {
+        false
+    }
+}
+
+fn filled_five(a: u32, b: u32, c: u32, d: u32, e: u32) -> u16
+    ensures { λ r. ⌜ (r ≡ bit (ltb 0 a) + bit (ltb 0 b) + bit (ltb 0 c) + bit (ltb 0 d) + bit (ltb 0 e)) × (r ≤ 5) ⌝ }
+{
+    one_if(0 < a) + one_if(0 < b) + one_if(0 < c) + one_if(0 < d) + one_if(0 < e)
+}
+
+// How many values are filled.
+pub fn filled_count(v: [u32; 10]) -> u16
+    ensures { λ r. ⌜ r ≡ filledCount v ⌝ }
+{
+    let low = filled_five(v[0], v[1], v[2], v[3], v[4]);
+    let high = filled_five(v[5], v[6], v[7], v[8], v[9]);
+    low + high
+}
+
+// Each of the ten criteria belongs to the criteria exactly if its value is filled.
+fn all_agree(criteria: u32, v: [u32; 10]) -> bool
+    ensures { λ r. ⌜ r ≡ allBelow (agrees criteria v) 10 ⌝ }
+{
+    let mut ok = true;
+    for i in 0..10 {
+        let k = i as usize;
+        ok = and(ok, one_if(belongs(criteria, i)) == one_if(0 < v[k]));
+    }
+    ok
+}
+
+// A row fills exactly as many fields as its rule has criteria, and the same ones.
+pub fn fills(criteria: u32, v: [u32; 10]) -> bool
+    ensures { λ r. ⌜ r ≡ eqb criteria (filled v) ⌝ }
+{
+    if u32::count_ones(criteria) != filled_count(v) as u32 {
+        return false;
+    }
+    and(criteria < 1024, all_agree(criteria, v))
+}
+
+// ---- Free places.
+
+pub fn type_zero(t: RestrictionType) -> bool
+    ensures { λ r. ⌜ r ≡ typeZero t ⌝ }
+{
+    let days = and(t.first == 0, and(t.last == 0, true));
+    let rest = and(t.object == 0, and(t.processing == 0, days));
+    and(t.csd == 0, and(t.number == 0, rest))
+}
+
+pub fn rule_zero(t: Rule) -> bool
+    ensures { λ r. ⌜ r ≡ ruleZero t ⌝ }
+{
+    let days = and(t.first == 0, and(t.last == 0, true));
+    let says = and(t.sign == 0, and(t.criteria == 0, days));
+    let rest = and(t.object == 0, and(t.sequence == 0, says));
+    and(t.csd == 0, and(t.number == 0, rest))
+}
+
+pub fn row_zero(t: Row) -> bool
+    ensures { λ r. ⌜ r ≡ rowZero t ⌝ }
+{
+    let v = t.values;
+    let rest = and(t.sequence == 0, filled_count(v) == 0);
+    and(t.csd == 0, and(t.number == 0, and(t.object == 0, rest)))
+}
+
+pub fn period_zero(t: Period) -> bool
+    ensures { λ r. ⌜ r ≡ periodZero t ⌝ }
+{
+    let days = and(t.first == 0, and(t.last == 0, true));
+    let rest = and(t.number == 0, and(t.code == 0, days));
+    and(t.csd == 0, and(t.kind == 0, rest))
+}
+
+// ---- Whether a record is as asked (document 01, 'Records').
+
+// The new last day is before the record's first or after its present last.
+fn is_outside(last: u32, first: u32, present: u32) -> bool
+    ensures { λ r. ⌜ r ≡ outside last first present ⌝ }
+{
+    or(last < first, present < last)
+}
+
+fn is_type(t: RestrictionType, number: u8, object: u8) -> bool
+    ensures { λ r. ⌜ r ≡ typeMeets (TypeAsk.Named number object) (typeOf t) ⌝ }
+{
+    and(t.number == number, t.object == object)
+}
+
+fn type_outside(t: RestrictionType, number: u8, object: u8, last: u32) -> bool
+    ensures { λ r. ⌜ r ≡ typeMeets (TypeAsk.Outside number object last) (typeOf t) ⌝ }
+{
+    and(
+        is_type(t, number, object),
+        is_outside(last, t.first, t.last),
+    )
+}
+
+pub fn type_meets(t: RestrictionType, q: TypeAsk) -> bool
+    ensures { λ r. ⌜ r ≡ typeMeets q (typeOf t) ⌝ }
+{
+    match q {
+        TypeAsk::Any => true,
+        TypeAsk::Named(number, object) => is_type(t, number, object),
+        TypeAsk::Outside(number, object, last) => type_outside(t, number, object, last),
+    }
+}
+
+fn is_rule(t: Rule, number: u8, object: u8, sequence: u8) -> bool
+    ensures { λ r. ⌜ r ≡ isRule number object sequence (ruleOf t) ⌝ }
+{
+    and(
+        and(t.sequence == sequence, t.number == number),
+        t.object == object,
+    )
+}
+
+fn fills_rule(t: Rule, w: Row) -> bool
+    ensures { λ r. ⌜ r ≡ ruleMeets RuleAsk.Fills (rowOf w) (ruleOf t) ⌝ }
+{
+    let v = w.values;
+    if is_rule(t, w.number, w.object, w.sequence) {
+        return fills(t.criteria, v);
+    }
+    false
+}
+
+fn other_criteria(t: Rule, w: Row) -> bool
+    ensures { λ r. ⌜ r ≡ ruleMeets RuleAsk.Other (rowOf w) (ruleOf t) ⌝ }
+{
+    let v = w.values;
+    if is_rule(t, w.number, w.object, w.sequence) {
+        return no(fills(t.criteria, v));
+    }
+    false
+}
+
+pub fn rule_meets(t: Rule, q: RuleAsk, w: Row) -> bool
+    ensures { λ r. ⌜ r ≡ ruleMeets q (rowOf w) (ruleOf t) ⌝ }
+{
+    match q {
+        RuleAsk::Any => true,
+        RuleAsk::Named(number, object, sequence) => is_rule(t, number, object, sequence),
+        RuleAsk::Fills => fills_rule(t, w),
+        RuleAsk::Other => other_criteria(t, w),
+    }
+}
+
+fn same_five(
+    a0: u32,
+    b0: u32,
+    a1: u32,
+    b1: u32,
+    a2: u32,
+    b2: u32,
+    a3: u32,
+    b3: u32,
+    a4: u32,
+    b4: u32,
+    rest: bool,
+) -> bool
+    ensures { λ r. ⌜ r ≡ (eqb a0 b0 && (eqb a1 b1 && (eqb a2 b2 && (eqb a3 b3 && (eqb a4 b4 && rest))))) ⌝ }
+{
+    and(
+        a0 == b0,
+        and(a1 == b1, and(a2 == b2, and(a3 == b3, and(a4 == b4, rest)))),
+    )
+}
+
+fn same_values(a: [u32; 10], b: [u32; 10]) -> bool
+    ensures { λ r. ⌜ r ≡ sameNumbers a b ⌝ }
+{
+    let rest = same_five(
+        a[5],
+        b[5],
+        a[6],
+        b[6],
+        a[7],
+        b[7],
+        a[8],
+        b[8],
+        a[9],
+        b[9],
+        true,
+    );
+    same_five(
+        a[0],
+        b[0],
+        a[1],
+        b[1],
+        a[2],
+        b[2],
+        a[3],
+        b[3],
+        a[4],
+        b[4],
+        rest,
+    )
+}
+
+fn of_rule(t: Row, w: Row) -> bool
+    ensures { λ r. ⌜ r ≡ rowMeets RowAsk.OfRule (rowOf w) (rowOf t) ⌝ }
+{
+    and(
+        and(t.sequence == w.sequence, t.number == w.number),
+        t.object == w.object,
+    )
+}
+
+fn is_row(t: Row, w: Row) -> bool
+    ensures { λ r. ⌜ r ≡ rowMeets RowAsk.Same (rowOf w) (rowOf t) ⌝ }
+{
+    let mine = t.values;
+    let meant = w.values;
+    if of_rule(t, w) {
+        return same_values(meant, mine);
+    }
+    false
+}
+
+pub fn row_meets(t: Row, q: RowAsk, w: Row) -> bool
+    ensures { λ r. ⌜ r ≡ rowMeets q (rowOf w) (rowOf t) ⌝ }
+{
+    match q {
+        RowAsk::Any => true,
+        RowAsk::Same => is_row(t, w),
+        RowAsk::OfRule => of_rule(t, w),
+    }
+}
+
+fn is_period(t: Period, kind: u8, number: u32, code: u32, first: u32) -> bool
+    ensures { λ r. ⌜ r ≡ periodMeets (PeriodAsk.Named kind number code first) (periodOf t) ⌝ }
+{
+    let days = and(t.first == first, t.code == code);
+    and(and(days, t.number == number), t.kind == kind)
+}
+
+fn period_outside(t: Period, kind: u8, number: u32, code: u32, first: u32, last: u32) -> bool
+    ensures { λ r. ⌜ r ≡ periodMeets (PeriodAsk.Outside kind number code first last) (periodOf t) ⌝ }
+{
+    and(
+        is_period(t, kind, number, code, first),
+        is_outside(last, t.first, t.last),
+    )
+}
+
+// First and last day both count.
+fn clashes(t: Period, p: Period) -> bool
+    ensures { λ r. ⌜ r ≡ periodMeets (PeriodAsk.Clash p) (periodOf t) ⌝ }
+{
+    let of = and(
+        and(t.kind == p.kind, t.number == p.number),
+        t.code / 100 == p.code / 100,
+    );
+    and(and(of, t.first <= p.last), p.first <= t.last)
+}
+
+pub fn period_meets(t: Period, q: PeriodAsk) -> bool
+    ensures { λ r. ⌜ r ≡ periodMeets q (periodOf t) ⌝ }
+{
+    match q {
+        PeriodAsk::Any => true,
+        PeriodAsk::Clash(p) => clashes(t, p),
+        PeriodAsk::Named(kind, number, code, first) => is_period(t, kind, number, code, first),
+        PeriodAsk::Outside(kind, number, code, first, last) => {
+            period_outside(t, kind, number, code, first, last)
+        }
+    }
+}

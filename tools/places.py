@@ -1,0 +1,274 @@
+#!/usr/bin/env python3
+"""Writes what differs between the tables only in sizes and names: the structs, reading and storing (crates/places).
+Usage: places.py (in the repository's root), then rt fmt. The one place where the layout is written; docs/LAYOUT.md says it in words."""
+import os
+
+# struct, name, places, quota, fields: name and bytes; values: bytes of each of an array's numbers
+TABLES = [
+    ("RestrictionType", "type", 128, 16, [("csd", 1), ("number", 1), ("object", 1), ("processing", 1), ("first", 4), ("last", 4)]),
+    ("Rule", "rule", 512, 64, [("csd", 1), ("number", 1), ("object", 1), ("sequence", 1), ("sign", 1), ("criteria", 2), ("first", 4), ("last", 4)]),
+    ("Row", "row", 1024, 128, [("csd", 1), ("number", 1), ("object", 1), ("sequence", 1), ("values", [1, 1, 1, 4, 3, 3, 2, 2, 2, 3])]),
+    ("Period", "period", 1024, 128, [("csd", 1), ("kind", 1), ("number", 3), ("code", 2), ("first", 4), ("last", 4)]),
+]
+WHAT = {
+    "RestrictionType": "A restriction type of a depository: what becomes of an object that its rules match.",
+    "Rule": "A rule of a type, with the criteria that its rows fill.",
+    "Row": "A row of a rule: its ten values, 0 where empty.",
+    "Period": "An attribute period: the days on which a party, an account or a security bears a code.",
+}
+W = {1: "one", 2: "two", 3: "three", 4: "four"}
+C = "crates/places"
+
+def write(path, text):
+    os.makedirs(os.path.dirname(path), exist_ok=True)
+    open(path, "w").write(text)
+
+def flat(fields):
+    """each number: the field, its place in an array or none, its bytes, its offset"""
+    out, j = [], 0
+    for f, w in fields:
+        for k, x in enumerate(w) if isinstance(w, list) else [(None, w)]:
+            out.append((f, k, x, j))
+            j += x
+    return out, j
+
+start, layout = 0, []
+for s, n, places, quota, fields in TABLES:
+    nums, size = flat(fields)
+    layout.append((s, n, places, quota, fields, nums, size, start))
+    start += places * size
+
+# ---- the code
+code = open("tools/places.head.txt").read()
+code = code.replace("LAYOUT", ", ".join(f"{n}At, put{n.capitalize()}, zero{n.capitalize()}" for _, n, *_ in layout))
+for s, n, places, quota, fields, nums, size, at0 in layout:
+    addr = f"(i as u32) * {size}" if at0 == 0 else f"{at0} + (i as u32) * {size}"
+    code += f"\n// {WHAT[s]}\npub struct {s} {{\n"
+    for f, w in fields:
+        code += f"    pub {f}: " + ("[u32; 10]" if isinstance(w, list) else "u8" if w == 1 else "u32") + ",\n"
+    code += f"}}\n\nimpl {s} {{\n    pub const QUOTA: u16 = {quota};\n    pub const PLACES: u16 = {places};\n\n    // What stands at a free place.\n    pub fn zero() -> {s}\n        ensures {{ λ r. ⌜ r ≡ zero{n.capitalize()} ⌝ }}\n    {{\n        {s} {{\n"
+    code += "".join(f"            {f}: {'[0; 10]' if isinstance(w, list) else '0'},\n" for f, w in fields) + "        }\n    }\n"
+    ty = lambda w: "[u32; 10]" if isinstance(w, list) else "u8" if w == 1 else "u32"
+    code += f"\n    pub fn new(" + ", ".join(f"{f}: {ty(w)}" for f, w in fields) + f") -> {s}\n"
+    code += "        ensures { λ r. ⌜ r ≡ record { " + "; ".join(f"{f} = {f}" for f, _ in fields) + " } ⌝ }\n    {\n"
+    code += f"        {s} {{\n" + "".join(f"            {f},\n" for f, _ in fields) + "        }\n    }\n}\n"
+    code += f"\n// Whose the place is, 0 where it is free.\npub fn {n}_csd(b: &[u8], i: u16) -> u8\n    ensures {{ λ r. ⌜ r ≡ {n}At (now (b .entry)) i .csd ⌝ }}\n{{\n    let at = {addr};\n    byte_at(b, at, 0)\n}}\n"
+    def read(f, k, w, j):
+        r = f"{W[w]}_at(b, at, {j})"
+        return f"byte_at(b, at, {j})" if w == 1 and k is None else r
+    code += f"\npub fn {n}_at(b: &[u8], i: u16) -> {s}\n    ensures {{ λ r. ⌜ r ≡ {n}At (now (b .entry)) i ⌝ }}\n{{\n    let at = {addr};\n"
+    arr = [x for x in nums if x[1] is not None]
+    if arr:
+        code += "    let values = [" + ", ".join(read(*x) for x in arr) + "];\n"
+    code += f"    {s} {{\n" + "".join(f"        {f}: {read(f, k, w, j)},\n" for f, k, w, j in nums if k is None)
+    code += ("        values,\n" if arr else "") + "    }\n}\n"
+    for half in (arr[:3], arr[3:6], arr[6:]) if arr else ():
+        k0 = half[0][1]
+        ws, vs = " ∷ ".join(W[x[2]] for x in half), " ∷ ".join(f"getD v {x[1]} 0" for x in half)
+        code += f"\n// Values {k0} to {half[-1][1]} of a row.\nfn put_values_{k0}(b: &mut [u8], at: u32, v: [u32; 10])\n"
+        code += f"    ensures {{ λ _. ⌜ now (b .exit) ≡ puts (now (b .entry)) at {half[0][3]} (bytesOf ({ws} ∷ []) ({vs} ∷ [])) ⌝ }}\n{{\n"
+        code += "".join(f"    put_{W[w]}(b, at, {j}, v[{k}]);\n" for f, k, w, j in half) + "}\n"
+    code += f"\npub fn put_{n}(b: &mut [u8], i: u16, r: {s})\n    ensures {{ λ _. ⌜ now (b .exit) ≡ put{n.capitalize()} (now (b .entry)) i r ⌝ }}\n{{\n    let at = {addr};\n"
+    if arr:
+        code += "    let values = r.values;\n"
+    rest = list(nums)
+    if all(w == 1 and k is None for f, k, w, j in rest[:4]):
+        code += "    put_head(b, at, " + ", ".join(f"r.{f}" for f, *_ in rest[:4]) + ");\n"
+        rest = rest[4:]
+    elif all(w == 1 for f, k, w, j in rest[:2]):
+        code += f"    put_pair(b, at, r.{rest[0][0]}, r.{rest[1][0]});\n"
+        rest = rest[2:]
+    days = [w for f, k, w, j in rest[-2:]] == [4, 4] and rest[-2][0] == "first"
+    for f, k, w, j in rest[:-2] if days else rest:
+        if k is None:
+            code += f"    put_{W[w]}(b, at, {j}, " + (f"wide(r.{f})" if w == 1 else f"r.{f}") + ");\n"
+        elif k in (0, 3, 6):
+            code += f"    put_values_{k}(b, at, values);\n"
+    if days:
+        code += f"    put_days(b, at, {rest[-2][3]}, r.first, r.last);\n"
+    code += "}\n"
+write(f"{C}/src/lib.rt", code)
+
+# ---- the definitions
+spec = """-- The book's four tables: where each place starts, the numbers that stand there, and the record that they are.
+-- Written by tools/places.py.
+use Prim.Native.Nat.{ℕ, _+_, _*_}
+use mathlib.Core.List.{List, [], _∷_}
+use lib.ListN.{getD, drop, replicate}
+use Rattle.tables.specs.Bytes.{Width, one, two, three, four, numbers, bytesOf, puts}
+"""
+for s, *_ in layout:
+    spec += f"use Rattle.places.specs.declared.{s}.{{{s}}}\n"
+spec += f"\n-- the book's size\nabbrev pub bookSize : ℕ\nbookSize = {start}\n"
+for s, n, places, quota, fields, nums, size, at0 in layout:
+    N = n.capitalize()
+    spec += f"\n-- ---- {places} places of {size} bytes, from {at0}\n"
+    spec += f"\nabbrev pub {n}Start : ℕ → ℕ\n{n}Start i = " + (f"i * {size}" if at0 == 0 else f"{at0} + i * {size}") + "\n"
+    spec += f"\nabbrev pub {n}Widths : List Width\n{n}Widths = " + " ∷ ".join(W[x[2]] for x in nums) + " ∷ []\n"
+    spec += f"\nabbrev pub {n}From : List ℕ → {s}\n{n}From v = record {{ "
+    spec += "; ".join(f"{f} = drop {k} v" if isinstance(w, list) else f"{f} = getD v {k} 0" for k, (f, w) in enumerate(fields)) + " }\n"
+    spec += f"\nabbrev pub {n}Numbers : {s} → List ℕ\n{n}Numbers r = " + " ∷ ".join(f"r .{f}" if k is None else f"getD (r .values) {k} 0" for f, k, w, j in nums) + " ∷ []\n"
+    spec += f"\nunfoldable pub {n}At : List ℕ → ℕ → {s}\n{n}At b i = {n}From (numbers {n}Widths b ({n}Start i) 0)\n"
+    spec += f"\nunfoldable pub put{N} : List ℕ → ℕ → {s} → List ℕ\nput{N} b i r = puts b ({n}Start i) 0 (bytesOf {n}Widths ({n}Numbers r))\n"
+    spec += f"\nabbrev pub zero{N} : {s}\nzero{N} = record {{ " + "; ".join(f"{f} = replicate {len(w)} 0" if isinstance(w, list) else f"{f} = 0" for f, w in fields) + " }\n"
+write(f"{C}/specs/Layout.antt", spec)
+write(f"{C}/specs/Lib.antt", "pub mod Layout\n")
+
+# ---- reading: what the calls return is the record. A law, since cc gives up at so many calls
+law = """-- What the calls of a reading return, taken together, is the record. Written by tools/places.py.
+use Prim.Native.Nat.{ℕ}
+use mathlib.Core.Path.{_≡_}
+use mathlib.Core.List.{List, [], _∷_}
+use Rattle.tables.specs.Bytes.{one, two, three, four, number}
+use Rattle.places.specs.Layout.{LAYOUT}
+USES
+""".replace("LAYOUT", ", ".join(f"{n}Start, {n}At" for _, n, *_ in layout)).replace("USES", "\n".join(f"use Rattle.places.specs.declared.{s}.{{{s}}}" for s, *_ in layout))
+for s, n, places, quota, fields, nums, size, at0 in layout:
+    xs = [f"x{j}" for *_, j in nums]
+    arr = " ∷ ".join(f"x{j}" for f, k, w, j in nums if k is not None)
+    law += f"\npub {n}-read : (b : List ℕ) (i {' '.join(xs)} : ℕ) → "
+    law += " → ".join(f"x{j} ≡ number {W[w]} b ({n}Start i) {j}" for f, k, w, j in nums)
+    rec = "; ".join([f"{f} = x{j}" for f, k, w, j in nums if k is None] + ([f"values = {arr} ∷ []"] if arr else []))
+    law += f" → _≡_ {{A = {s}}} (record {{ {rec} }}) ({n}At b i)\nunfolding {n}At\n"
+    hs = [f"h{j}" for *_, j in nums]
+    law += f"{n}-read b i {' '.join(xs)} {' '.join(hs)} = rw ({', '.join(hs)})\n"
+write(f"{C}/proofs/Reading.antt", law)
+
+# ---- storing: one store after the other stores the record
+law = """-- Stores one after the other, as the functions make them. Written by tools/places.py.
+use Prim.Native.Nat.{ℕ, _+_}
+use mathlib.Core.Path.{_≡_}
+use mathlib.Core.List.{List, [], _∷_}
+use native.Mathlib.Nat.{add-assoc}
+use lib.ListN.{getD}
+use Rattle.tables.specs.Bytes.{one, two, three, four, digits, bytesOf, puts}
+use Rattle.places.specs.Layout.{LAYOUT}
+USES
+
+pub days-put : (b b0 b1 : List ℕ) (at j first last : ℕ) → b0 ≡ puts b at j (digits four first) → b1 ≡ puts b0 at (j + 4) (digits four last) → b1 ≡ puts b at j (bytesOf (four ∷ four ∷ []) (first ∷ last ∷ []))
+unfolding puts digits bytesOf
+days-put b b0 b1 at j first last h0 h1 = rw (h1, h0) (simp add-assoc)
+""".replace("LAYOUT", ", ".join(f"{n}Start, put{n.capitalize()}" for _, n, *_ in layout)).replace("USES", "\n".join(f"use Rattle.places.specs.declared.{s}.{{{s}}}" for s, *_ in layout))
+def bytes_of(group, val):
+    return "(bytesOf (" + " ∷ ".join(W[x[2]] for x in group) + " ∷ []) (" + " ∷ ".join(val(x) for x in group) + " ∷ []))"
+def chain(name, binders, at, steps, result, unfold):
+    """steps: offset, what is stored, and the number that `wide` was given"""
+    wides = [f"w{m}" for m, st in enumerate(steps) if len(st) == 3]
+    binders += f" ({' '.join(wides)} : ℕ)" if wides else ""
+    t = f"\npub {name} : (b {' '.join(f'b{m}' for m in range(len(steps)))} : List ℕ) {binders} → "
+    hs = [f"h{m}" for m in range(len(steps))]
+    order = list(reversed(hs))
+    args = []
+    for m, (j, what, *wide) in enumerate(steps):
+        if wide:
+            t += f"w{m} ≡ {wide[0]} → "
+            what = f"(digits one w{m})"
+            args.append(f"e{m}")
+            order.append(f"e{m}")
+        t += f"b{m} ≡ puts {'b' if m == 0 else f'b{m - 1}'} {at} {j} {what} → "
+        args.append(f"h{m}")
+    vs = []
+    for part in binders.split(")"):
+        if "(" in part:
+            vs += part.split("(")[1].split(":")[0].split()
+    t += f"b{len(steps) - 1} ≡ {result}\nunfolding puts digits bytesOf {unfold}".rstrip() + "\n"
+    return t + f"{name} b {' '.join(f'b{m}' for m in range(len(steps)))} {' '.join(vs)} {' '.join(args)} = rw ({', '.join(order)})\n"
+head = [(c, None, 1, j) for j, c in enumerate("xyzu")]
+law += chain("head-put", "(at x y z u : ℕ)", "at", [(j, "", c) for c, _, _, j in head], "puts b at 0 " + bytes_of(head, lambda x: x[0]), "")
+law += chain("pair-put", "(at x y : ℕ)", "at", [(j, "", c) for c, _, _, j in head[:2]], "puts b at 0 " + bytes_of(head[:2], lambda x: x[0]), "")
+for s, n, places, quota, fields, nums, size, at0 in layout:
+    steps, rest = [], list(nums)
+    val = lambda x: f"(r .{x[0]})" if x[1] is None else f"(getD (r .values) {x[1]} 0)"
+    if all(w == 1 and k is None for f, k, w, j in rest[:4]):
+        steps.append((0, bytes_of(rest[:4], val)))
+        rest = rest[4:]
+    elif all(w == 1 for f, k, w, j in rest[:2]):
+        steps.append((0, bytes_of(rest[:2], val)))
+        rest = rest[2:]
+    days = [w for f, k, w, j in rest[-2:]] == [4, 4] and rest[-2][0] == "first"
+    for f, k, w, j in rest[:-2] if days else rest:
+        if k is None:
+            steps.append((j, "", f"r .{f}") if w == 1 else (j, f"(digits {W[w]} (r .{f}))"))
+    arr = [x for x in nums if x[1] is not None]
+    for half in (arr[:3], arr[3:6], arr[6:]) if arr else ():
+        v = lambda x: f"x{x[1]}"
+        law += chain(f"values-{half[0][1]}-put", f"({' '.join(map(v, half))} at : ℕ)", "at", [(x[3], f"(digits {W[x[2]]} {v(x)})") for x in half], f"puts b at {half[0][3]} " + bytes_of(half, v), "")
+        steps.append((half[0][3], bytes_of(half, val)))
+    if days:
+        steps.append((rest[-2][3], bytes_of(rest[-2:], val)))
+    law += chain(f"{n}-put", f"(i : ℕ) (r : {s})", f"({n}Start i)", steps, f"put{n.capitalize()} b i r", f"put{n.capitalize()}")
+write(f"{C}/proofs/Storing.antt", law)
+write(f"{C}/proofs/Lib.antt", "pub mod Reading\npub mod Storing\npub mod Stores\n")
+
+# ---- what a store leaves
+law = """-- THE STORES: that place reads back as the record, every other place and every other table reads as before, the length stays.
+-- Written by tools/places.py.
+use Prim.Native.Nat.{ℕ, _+_, _*_, _≤_, _<_}
+use mathlib.Core.Path.{_≡_, refl, ap, _∙_}
+use mathlib.Core.List.{List, [], _∷_}
+use native.Mathlib.Omega.{arith}
+use lib.Dec.{ltb}
+use lib.ListN.{length, getD}
+use borrow.Author.Tests.{ltb-true, ltb-false}
+use Rattle.tables.specs.Bytes.{Width, digits, bytesOf, puts, numbers, Hold}
+use Rattle.tables.proofs.Counts.{cases}
+use Rattle.tables.proofs.Bytes.{length-puts, numbers-put, numbers-before, numbers-behind}
+use Rattle.places.specs.Layout.{LAYOUT}
+USES
+-- the ten values of a row
+""".replace("LAYOUT", ", ".join(f"{n}Start, {n}Widths, {n}From, {n}Numbers, {n}At, put{n.capitalize()}" for _, n, *_ in layout)).replace("USES", "\n".join(f"use Rattle.places.specs.declared.{s}.{{{s}}}" for s, *_ in layout))
+law += "pub ten : (v : List ℕ) → length v ≡ 10 → " + " ∷ ".join(f"getD v {k} 0" for k in range(10)) + " ∷ [] ≡ v\n"
+for k in range(10):
+    law += "ten (" + "".join(f"x{m} ∷ " for m in range(k)) + "[]) e = absurd (omega arith)\n"
+law += "ten (" + "".join(f"x{m} ∷ " for m in range(10)) + "[]) e = refl\n"
+law += "ten (" + "".join(f"x{m} ∷ " for m in range(11)) + "v) e = absurd (omega arith)\n"
+for s, n, places, quota, fields, nums, size, at0 in layout:
+    N = n.capitalize()
+    arr = any(x[1] is not None for x in nums)
+    law += f"\nmodule _ (b : List ℕ) (i : ℕ) (r : {s}) where\n"
+    law += f"  pub length-{n} : length (put{N} b i r) ≡ length b\n  unfolding put{N}\n  length-{n} = length-puts (bytesOf {n}Widths ({n}Numbers r)) b ({n}Start i) 0\n"
+    law += f"\n  {n}-bytes : length (bytesOf {n}Widths ({n}Numbers r)) ≡ {size}\n  unfolding digits bytesOf\n  {n}-bytes = refl\n"
+    back = "length (r .values) ≡ 10 → " if arr else ""
+    law += f"\n  pub {n}-back : {back}Hold {n}Widths ({n}Numbers r) → {n}Start i + {size} ≤ length b → {n}At (put{N} b i r) i ≡ r\n  unfolding {n}At put{N}\n"
+    put = f"ap {n}From (numbers-put {n}Widths ({n}Numbers r) b ({n}Start i) 0 h fits)"
+    law += f"  {n}-back {'len ' if arr else ''}h fits = {put}" + (f" ∙ (λ k. record {{ csd = r .csd; number = r .number; object = r .object; sequence = r .sequence; values = ten (r .values) len k }})" if arr else "") + "\n"
+    law += f"""
+  pub {n}-other : (k : ℕ) → (k ≡ i → ⊥) → {n}At (put{N} b i r) k ≡ {n}At b k
+  unfolding {n}At put{N}
+  {n}-other k n =
+      cases (ltb k i)
+      (λ e.
+      let l = ltb-true k i e in
+      ap {n}From (numbers-before {n}Widths (bytesOf {n}Widths ({n}Numbers r)) b ({n}Start k) ({n}Start i) (omega arith)))
+      (λ e.
+      let l = ltb-false k i e in
+      let m : i + 1 ≤ k = omega-ne i k l n in
+      ap {n}From (numbers-behind {n}Widths (bytesOf {n}Widths ({n}Numbers r)) b ({n}Start k) ({n}Start i) (omega (arith, {n}-bytes))))
+"""
+    for s2, n2, places2, q2, f2, nums2, size2, at2 in layout:
+        if n2 == n:
+            continue
+        way, fact = ("before", "omega arith") if at2 < at0 else ("behind", f"omega (arith, {n}-bytes)")
+        law += f"""
+  pub {n2}-by-{n} : i < {places} → (k : ℕ) → k < {places2} → {n2}At (put{N} b i r) k ≡ {n2}At b k
+  unfolding {n2}At put{N}
+  {n2}-by-{n} h k l = ap {n2}From (numbers-{way} {n2}Widths (bytesOf {n}Widths ({n}Numbers r)) b ({n2}Start k) ({n}Start i) ({fact}))
+"""
+law = law.replace("\nmodule _ (b : List ℕ) (i : ℕ) (r : RestrictionType)", "\nomega-ne : (i k : ℕ) → i ≤ k → (k ≡ i → ⊥) → i + 1 ≤ k\nomega-ne i k l n = cases (ltb i k) (λ e. omega (arith, ltb-true i k e)) (λ e. absurd (n (omega (arith, ltb-false i k e))))\n\nmodule _ (b : List ℕ) (i : ℕ) (r : RestrictionType)")
+write(f"{C}/proofs/Stores.antt", law)
+
+# ---- whose a place is
+for s, n, places, quota, fields, nums, size, at0 in layout:
+    needs = "    (λ c. search needs)\n" * (1 if at0 == 0 else 2)
+    write(f"{C}/proofs/{n}_csd/Proof.antt", f"""-- `places::{n}_csd` meets its contract. Assumes nothing.
+use borrow.Author.Needs.{{needs}}
+use Rattle.places.specs.Layout.{{{n}At}}
+use Rattle.places.proofs.{n}_csd.Statement.{{statement}}
+use Rattle.places.proofs.{n}_csd.Tie as tie
+
+pub {n}-csd-spec : {{M : Type 1}} → statement M
+unfolding {n}At
+{n}-csd-spec = tie.close (tie.spec
+{needs}    (λ c κs. search needs)
+    (λ c. c .byte-at .ensures))
+""")
