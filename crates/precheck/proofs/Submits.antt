@@ -39,7 +39,7 @@ use mathlib.Core.Option.{Option, some, none}
 use Rattle.line.specs.Table.{letterList, letter, placeOf}
 use Rattle.line.proofs.Readings.{place-letter}
 use Rattle.line.proofs.Padding.{padded-at}
-use Rattle.line.proofs.Callers as line
+use Rattle.line.proofs.Callers as Read
 use Rattle.precheck.specs.Promise.{answerIn, loneAfter, Submitted}
 use Rattle.precheck.specs.Taking.{questionFrom, refusalOf, answerOf, bytesOf, Took}
 
@@ -64,6 +64,10 @@ module _ (b : List ℕ) (l : Line) where
       let z = ne-eqb (l .letter) 9 e in
       let r : eqb (refusal (loneBook (byte (l .values) 0) b) (commandIn (l .letter) (l .values))) 0 ≡ true = eq-eqb _ 0 (sym h ∙ f) in
       record { answered = rw (z, r) g; bytes = rw (z, r) k }
+
+pub question-made : (v : List ℕ) (c o : ℕ) → o ≡ byte v 2 → c ≡ byte v 0 → record { csd = c; day = v ! 1; object = o; role = v ! 3; movement = v ! 4; payment = v ! 5; transaction = v ! 6; currency = v ! 7; party = v ! 8; account = v ! 9; security = v ! 10 } ≡ questionFrom v
+unfolding questionFrom
+question-made v c o e f = rw (e, f)
 
 -- ---- the returns of submit
 
@@ -90,8 +94,8 @@ pub submitted-unread : (b line : List ℕ) (t : Bool) (l : Line) (x : Answer) �
 unfolding answerIn loneAfter
 submitted-unread b line t l x e f g h i =
     let s : sound b ≡ true = sym e ∙ not-false t f in
-    let w = line.was-refused line g h in
-    let u = λ (m : M.Book). step-refused m line (l .refusal) (w .whole) in
+    let w = Read.was-refused line g h in
+    let u : (m : M.Book) → step m line ≡ record { answer = Refused (l .refusal); book = m } = λ m. step-refused m line (l .refusal) (w .whole) in
     record {
       answered = rw (s, u (loneBook (depository line) b)) i;
       kept = λ z. refl;
@@ -192,7 +196,7 @@ question-asked n v e h = rw e (sym (question-right v h))
 not-question : (n : ℕ) → n < 10 → (n ≡ 9 → ⊥) → letter n ≡ letterQ → ⊥
 not-question n l h e = h (sym (place-letter n l) ∙ ap placeOf e)
 
-module _ (b line : List ℕ) (l : Line) (s : sound b ≡ true) (a : line.Asked line l) where
+module _ (b line : List ℕ) (l : Line) (s : sound b ≡ true) (a : Read.Asked line l) where
   abbrev L : Letter
   L = letter (l .letter)
 
@@ -262,4 +266,4 @@ module _ (b line : List ℕ) (l : Line) (s : sound b ≡ true) (a : line.Asked l
       (submitted-refused b line (byte v 0) k s low high dep nam stepped x e (rw (z, y) at (t .answered)))))
 
 pub submitted : (b b′ line : List ℕ) (t : Bool) (l : Line) (x : Answer) → t ≡ sound b → not t ≡ false → l ≡ lineOf (reading line) → l .refusal ≡ 0 → Took b l x b′ → Submitted b line x b′
-submitted b b′ line t l x e f g h i = submitted-read b line l (sym e ∙ not-false t f) (line.asked line g h) x b′ i
+submitted b b′ line t l x e f g h i = submitted-read b line l (sym e ∙ not-false t f) (Read.asked line g h) x b′ i
