@@ -1,9 +1,9 @@
 #!/usr/bin/env python3
-"""Writes what a store at one place leaves of the lone lists, for each table (crates/edits/proofs/Kept.antt).
+"""Writes what a store at one place leaves of the lone lists (crates/book/proofs/Kept.antt), for each table.
 Usage: edits.py (in the repository's root), then rt fmt."""
 T = [("type", "RestrictionType", 128, 12, "TypeRecord", 6), ("rule", "Rule", 512, 15, "Rule", 8), ("row", "Row", 1024, 26, "Row", 14), ("period", "Period", 1024, 15, "Period", 6)]
 out = """-- What a store at one place leaves of the lone lists. Written by tools/edits.py.
-use Prim.Native.Nat.{ℕ, _+_, _≤_, _<_}
+use Prim.Native.Nat.{ℕ, _≤_, _<_}
 use mathlib.Core.Path.{_≡_, refl, ap, sym, _∙_}
 use mathlib.Core.Bool.{Bool, true}
 use mathlib.Core.List.{List, _∷_}
@@ -12,7 +12,7 @@ use lib.Dec.{lit<}
 use lib.ListN.{length}
 use Rattle.tables.specs.Count.{count, without, change, Same}
 use Rattle.tables.specs.Bytes.{Hold}
-use Rattle.tables.proofs.Lone.{lone-same, lone-others, lone-removed, lone-changed, lone-still, lone-added}
+use Rattle.tables.proofs.Lone.{lone-same, lone-removed, lone-changed, lone-still, lone-added}
 use Rattle.meaning.specs.Records as M
 """
 for n, S, N, z, R, w in T:
@@ -20,7 +20,8 @@ for n, S, N, z, R, w in T:
     out += f"use Rattle.places.specs.declared.{S}.{{{S}}}\n"
     out += f"use Rattle.places.specs.Layout.{{{n}At, put{P}, zero{P}, {n}Widths, {n}Numbers}}\n"
     out += f"use Rattle.places.proofs.Stores.{{{n}-back, {n}-other, " + ", ".join(f"{m}-by-{n}" for m, *_ in T if m != n) + "}\n"
-    out += f"use Rattle.records.specs.Said.{{{n}Of}}\nuse Rattle.book.specs.Lone.{{{n}sOf}}\n"
+    out += f"use Rattle.records.specs.Said.{{{n}Of}}\n"
+    out += f"use Rattle.book.specs.Lone.{{{n}sOf}}\n"
 for n, S, N, z, R, w in T:
     P = n.capitalize()
     out += f"\n-- ---- {n}s\n\nmodule _ (b : List ℕ) (i : ℕ) (r : {S}) (place : i < {N}) where\n"
@@ -66,4 +67,4 @@ module _ (b : List ℕ) (i c : ℕ) (t : M.{R} → Bool) (place : i < {N}) (size
       lone-changed (λ x. x .csd) {n}Of c t ({n}At b) i {N} place own hit once ({n}At (put{P} b i r)) (λ k l. {n}-other b i r k) g
       (ap (λ x. x .csd) e ∙ o) (ap {n}Of e ∙ f) {N} (omega arith)
 """
-open("crates/edits/proofs/Kept.antt", "w").write(out)
+open("crates/book/proofs/Kept.antt", "w").write(out)

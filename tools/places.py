@@ -52,7 +52,7 @@ for s, n, places, quota, fields, nums, size, at0 in layout:
     code += f"\n    pub fn new(" + ", ".join(f"{f}: {ty(w)}" for f, w in fields) + f") -> {s}\n"
     code += "        ensures { λ r. ⌜ r ≡ record { " + "; ".join(f"{f} = {f}" for f, _ in fields) + " } ⌝ }\n    {\n"
     code += f"        {s} {{\n" + "".join(f"            {f},\n" for f, _ in fields) + "        }\n    }\n}\n"
-    code += f"\n// Whose the place is, 0 where it is free.\npub fn {n}_csd(b: &[u8], i: u16) -> u8\n    ensures {{ λ r. ⌜ r ≡ {n}At (now (b .entry)) i .csd ⌝ }}\n{{\n    let at = {addr};\n    byte_at(b, at, 0)\n}}\n"
+    code += f"\n// Whose the place is, 0 where it is free.\npub fn {n}_csd(b: &[u8], i: u16) -> u8\n    ensures {{ λ r. ⌜ r ≡ {n}At (now (b .entry)) i .csd ⌝ }}\n{{\n    let start = {addr};\n    byte_at(b, start, 0)\n}}\n"
     def read(f, k, w, j):
         r = f"{W[w]}_at(b, at, {j})"
         return f"byte_at(b, at, {j})" if w == 1 and k is None else r
@@ -105,9 +105,10 @@ for s, n, places, quota, fields, nums, size, at0 in layout:
     spec += f"\n-- ---- {places} places of {size} bytes, from {at0}\n"
     spec += f"\nabbrev pub {n}Start : ℕ → ℕ\n{n}Start i = " + (f"i * {size}" if at0 == 0 else f"{at0} + i * {size}") + "\n"
     spec += f"\nabbrev pub {n}Widths : List Width\n{n}Widths = " + " ∷ ".join(W[x[2]] for x in nums) + " ∷ []\n"
-    spec += f"\nabbrev pub {n}From : List ℕ → {s}\n{n}From v = record {{ "
-    spec += "; ".join(f"{f} = drop {k} v" if isinstance(w, list) else f"{f} = getD v {k} 0" for k, (f, w) in enumerate(fields)) + " }\n"
-    spec += f"\nabbrev pub {n}Numbers : {s} → List ℕ\n{n}Numbers r = " + " ∷ ".join(f"r .{f}" if k is None else f"getD (r .values) {k} 0" for f, k, w, j in nums) + " ∷ []\n"
+    spec += f"\nabbrev pub {n}From : List ℕ → {s}\n{n}From v = record {{\n  "
+    spec += ";\n  ".join(f"{f} = drop {k} v" if isinstance(w, list) else f"{f} = getD v {k} 0" for k, (f, w) in enumerate(fields)) + ";\n}\n"
+    terms = [f"r .{f}" if k is None else f"getD (r .values) {k} 0" for f, k, w, j in nums] + ["[]"]
+    spec += f"\nabbrev pub {n}Numbers : {s} → List ℕ\n{n}Numbers r =\n    " + "\n    ∷ ".join(" ∷ ".join(terms[k:k + 5]) for k in range(0, len(terms), 5)) + "\n"
     spec += f"\nunfoldable pub {n}At : List ℕ → ℕ → {s}\n{n}At b i = {n}From (numbers {n}Widths b ({n}Start i) 0)\n"
     spec += f"\nunfoldable pub put{N} : List ℕ → ℕ → {s} → List ℕ\nput{N} b i r = puts b ({n}Start i) 0 (bytesOf {n}Widths ({n}Numbers r))\n"
     spec += f"\nabbrev pub zero{N} : {s}\nzero{N} = record {{ " + "; ".join(f"{f} = replicate {len(w)} 0" if isinstance(w, list) else f"{f} = 0" for f, w in fields) + " }\n"
@@ -203,14 +204,14 @@ write(f"{C}/proofs/Lib.antt", "pub mod Reading\npub mod Storing\npub mod Stores\
 # ---- what a store leaves
 law = """-- THE STORES: that place reads back as the record, every other place and every other table reads as before, the length stays.
 -- Written by tools/places.py.
-use Prim.Native.Nat.{ℕ, _+_, _*_, _≤_, _<_}
+use Prim.Native.Nat.{ℕ, _+_, _≤_, _<_}
 use mathlib.Core.Path.{_≡_, refl, ap, _∙_}
 use mathlib.Core.List.{List, [], _∷_}
 use native.Mathlib.Omega.{arith}
 use lib.Dec.{ltb}
 use lib.ListN.{length, getD}
 use borrow.Author.Tests.{ltb-true, ltb-false}
-use Rattle.tables.specs.Bytes.{Width, digits, bytesOf, puts, numbers, Hold}
+use Rattle.tables.specs.Bytes.{digits, bytesOf, Hold}
 use Rattle.tables.proofs.Counts.{cases}
 use Rattle.tables.proofs.Bytes.{length-puts, numbers-put, numbers-before, numbers-behind}
 use Rattle.places.specs.Layout.{LAYOUT}

@@ -1,14 +1,12 @@
 -- A SOUND BOOK AS FACTS, and back: the exact size, each place all zero or a depository's, each depository's lone book sound.
 use Prim.Native.Nat.{ℕ, _+_, _-_, _≤_, _<_}
 use mathlib.Core.Path.{_≡_, refl}
-use mathlib.Core.Bool.{Bool, true, false, _&&_, _||_}
+use mathlib.Core.Bool.{Bool, true, false, _||_}
 use mathlib.Core.List.{List}
 use native.Mathlib.Omega.{arith}
-use lib.Dec.{eqb, leb}
 use lib.ListN.{length}
 use borrow.Author.Tests.{eqb-true, eq-eqb, leb-true}
-use Rattle.tables.specs.Count.{allBelow}
-use Rattle.tables.proofs.Counts.{cases, both, ands, all-at, all-put}
+use Rattle.tables.proofs.Counts.{ands, all-at, all-put}
 use Rattle.meaning.specs.Records as M
 use Rattle.meaning.specs.Fields.{within}
 use Rattle.meaning.specs.Sound.{quotas, soundLone}
@@ -26,9 +24,9 @@ pub record GoodBook (b : List ℕ) : Type 0 where
   pub periods : (k : ℕ) → k < 1024 → (periodZero (periodAt b k) || within 1 8 (periodAt b k .csd)) ≡ true
   pub lone : (a : ℕ) → 1 ≤ a → a ≤ 8 → soundLone (loneBook a b) ≡ true
 
-pub good-of-sound : (b : List ℕ) → sound b ≡ true → GoodBook b
+pub facts-of-sound : (b : List ℕ) → sound b ≡ true → GoodBook b
 unfolding sound allPlaced placed
-good-of-sound b e = record {
+facts-of-sound b e = record {
   size = eqb-true (length b) 51200 (search ands);
   types = all-at (λ k. typeZero (typeAt b k) || within 1 8 (typeAt b k .csd)) 128 (search ands);
   rules = all-at (λ k. ruleZero (ruleAt b k) || within 1 8 (ruleAt b k .csd)) 512 (search ands);
@@ -39,9 +37,9 @@ good-of-sound b e = record {
       rw z at (all-at (λ a. soundLone (loneBook (a + 1) b)) 8 (search ands) (a - 1) (omega arith));
 }
 
-pub sound-of-good : (b : List ℕ) → GoodBook b → sound b ≡ true
+pub sound-of-facts : (b : List ℕ) → GoodBook b → sound b ≡ true
 unfolding sound allPlaced placed
-sound-of-good b g =
+sound-of-facts b g =
     rw (
       eq-eqb (length b) 51200 (g .size),
       all-put (λ k. typeZero (typeAt b k) || within 1 8 (typeAt b k .csd)) 128 (g .types),

@@ -5,3 +5,4 @@ pub mod Decided
 pub mod NoRecords
 pub mod Facts
 pub mod Found
+pub mod Kept

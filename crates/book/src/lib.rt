@@ -210,11 +210,11 @@ pub fn find_rule(b: &[u8], a: u8, q: RuleAsk, w: Row) -> u16
 fn rule_ok(b: &[u8], i: u16) -> bool
     ensures { λ r. ⌜ r ≡ ruleOk (now (b .entry)) i ⌝ }
 {
-    let t = rule_at(b, i);
-    if small(1, t.csd, 8) {
-        return good_rule(b, t);
+    let r = rule_at(b, i);
+    if small(1, r.csd, 8) {
+        return good_rule(b, r);
     }
-    rule_zero(t)
+    rule_zero(r)
 }
 
 fn all_rules(b: &[u8]) -> bool
@@ -263,11 +263,11 @@ pub fn find_row(b: &[u8], a: u8, q: RowAsk, w: Row) -> u16
 fn row_ok(b: &[u8], i: u16) -> bool
     ensures { λ r. ⌜ r ≡ rowOk (now (b .entry)) i ⌝ }
 {
-    let t = row_at(b, i);
-    if small(1, t.csd, 8) {
-        return good_row(b, t);
+    let w = row_at(b, i);
+    if small(1, w.csd, 8) {
+        return good_row(b, w);
     }
-    row_zero(t)
+    row_zero(w)
 }
 
 fn all_rows(b: &[u8]) -> bool
@@ -316,11 +316,11 @@ pub fn find_period(b: &[u8], a: u8, q: PeriodAsk) -> u16
 fn period_ok(b: &[u8], i: u16) -> bool
     ensures { λ r. ⌜ r ≡ periodOk (now (b .entry)) i ⌝ }
 {
-    let t = period_at(b, i);
-    if small(1, t.csd, 8) {
-        return good_period(b, t);
+    let p = period_at(b, i);
+    if small(1, p.csd, 8) {
+        return good_period(b, p);
     }
-    period_zero(t)
+    period_zero(p)
 }
 
 fn all_periods(b: &[u8]) -> bool

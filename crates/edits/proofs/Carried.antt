@@ -28,7 +28,7 @@ use Rattle.book.specs.Sound.{allPlaced}
 use Rattle.edits.specs.Leaves.{Leaves}
 use Rattle.edits.proofs.Placed.{of-one, rule-placed, row-placed}
 use Rattle.edits.specs.Moves.{ruleWith, rowWith, carried, carryRow, carryRows, reorderIn}
-use Rattle.edits.proofs.Kept.{types-by-rule, types-by-row, rules-by-row, rows-by-rule, periods-by-rule, periods-by-row, rules-still, rules-changed}
+use Rattle.book.proofs.Kept.{types-by-rule, types-by-row, rules-by-row, rows-by-rule, periods-by-rule, periods-by-row, rules-still, rules-changed}
 
 alter-none : {R : Type 0} (l : List R) → alter (λ x. x) l ≡ l
 unfolding alter
@@ -69,7 +69,7 @@ module _ (c n o s new : ℕ) (b : List ℕ) where
       (λ e. rw e (periods-by-row (carryRows c n o s new b m) m (rowWith new (rowAt b m)) (omega arith) a ∙ periods-carried a m (omega arith)))
       (λ e. rw e (periods-carried a m (omega arith)))
 
-  ten-values : (k : ℕ) → length (rowAt b k .values) ≡ 10
+  pub ten-values : (k : ℕ) → length (rowAt b k .values) ≡ 10
   unfolding rowAt
   ten-values k = refl
 

@@ -9,7 +9,6 @@ use lib.ListN.{length}
 use borrow.Author.Tests.{eqb-true, lt-ltb, leb-false, not-false}
 use Rattle.tables.specs.Count.{count, has, every, findBelow}
 use Rattle.tables.specs.Bytes.{Hold}
-use Rattle.tables.proofs.Found.{found, found-free}
 use Rattle.tables.proofs.Lone.{every-at}
 use Rattle.tables.proofs.Lists.{has-true}
 use Rattle.meaning.specs.Records as M
@@ -19,7 +18,7 @@ use Rattle.meaning.specs.Edits.{edited}
 use Rattle.meaning.specs.Forms.{holds, day, sequenceForm}
 use Rattle.meaning.specs.Sound.{typeFits, ruleFits, rowFits, periodFits, fits}
 use Rattle.meaning.proofs.First.{none-hold}
-use Rattle.meaning.proofs.Good.{Good, period-once}
+use Rattle.meaning.proofs.Good.{Good, good-of-sound, period-once}
 use Rattle.places.specs.Layout.{typeAt, ruleAt, rowAt, periodAt, typeWidths, typeNumbers, ruleWidths, ruleNumbers, rowWidths, rowNumbers, periodWidths, periodNumbers}
 use Rattle.records.specs.Said.{typeOf, ruleOf, rowOf, periodOf}
 use Rattle.records.specs.Asks.{typeMeets, ruleMeets, rowMeets, periodMeets}
@@ -27,81 +26,61 @@ use Rattle.records.specs.declared.TypeAsk.the-variants as Types
 use Rattle.records.specs.declared.RuleAsk.the-variants as Rules
 use Rattle.records.specs.declared.RowAsk.the-variants as Rows
 use Rattle.records.specs.declared.PeriodAsk.the-variants as Periods
-use Rattle.book.specs.Places.{typeHit, ruleHit, rowHit, periodHit, typePlace, rulePlace, rowPlace, periodPlace}
+use Rattle.book.specs.Places.{typePlace, rulePlace, rowPlace, periodPlace}
 use Rattle.book.specs.Lone.{typesOf, rulesOf, rowsOf, periodsOf, loneBook}
 use Rattle.edits.specs.Leaves.{Leaves}
-use Rattle.edits.specs.GoodBook.{GoodBook}
+use Rattle.records.proofs.Holds.{type-hold, rule-hold, row-hold, period-hold}
+use Rattle.book.proofs.Facts.{GoodBook}
+use Rattle.book.proofs.Found.{found-type, found-rule, found-row, found-period, free-type, free-rule, free-row, free-period}
 use Rattle.edits.specs.Moves.{ruleWith, rowWith, carryRows, reorderIn}
 use Rattle.edits.specs.Edit.{typeIn, ruleIn, rowIn, periodIn, typeEnded, periodEnded, noRow, freeType, freeRule, freeRow, freePeriod, storeType, storeRule, storeRow, storePeriod, endedType, endedPeriod, deletedRule, deletedRow, reorderedRule, editIn}
-use Rattle.edits.proofs.Widths.{type-holds, rule-holds, row-ten, row-holds, period-holds, type-ended-holds, period-ended-holds, rule-with-holds, row-with-holds}
+use Rattle.edits.proofs.Widths.{row-ten, type-ended-holds, period-ended-holds, rule-with-holds, row-with-holds}
 use Rattle.edits.proofs.Edits.{rule-deleted, row-deleted, type-ended, period-ended, type-added, rule-added, row-added, period-added}
-use Rattle.edits.proofs.Carried.{reordered}
+use Rattle.edits.proofs.Carried.{ten-values, reordered}
 
 module _ (b : List ℕ) (c : ℕ) (g : GoodBook b) (low : 1 ≤ c) (high : c ≤ 8) where
   own : Good (loneBook c b)
-  own = g .lone c low high
-
-  -- ---- a free place, where the depository is below its quota
-
-  free-type : length (typesOf c b) < 16 → (freeType b < 128) × (typeAt b (freeType b) .csd ≡ 0)
-  unfolding typesOf typePlace typeHit typeMeets
-  free-type l =
-      found-free (λ r. r .csd) typeOf (typeAt b) 128 8 16 (typeMeets Types.Any) (λ x. refl) (λ a x y. g .lone a x y .typesFew) c low high l (omega arith) (g .typeOwned)
-
-  free-rule : length (rulesOf c b) < 64 → (freeRule b < 512) × (ruleAt b (freeRule b) .csd ≡ 0)
-  unfolding rulesOf rulePlace ruleHit ruleMeets
-  free-rule l =
-      found-free (λ r. r .csd) ruleOf (ruleAt b) 512 8 64 (ruleMeets Rules.Any noRow) (λ x. refl) (λ a x y. g .lone a x y .rulesFew) c low high l (omega arith) (g .ruleOwned)
-
-  free-row : length (rowsOf c b) < 128 → (freeRow b < 1024) × (rowAt b (freeRow b) .csd ≡ 0)
-  unfolding rowsOf rowPlace rowHit rowMeets
-  free-row l =
-      found-free (λ r. r .csd) rowOf (rowAt b) 1024 8 128 (rowMeets Rows.Any noRow) (λ x. refl) (λ a x y. g .lone a x y .rowsFew) c low high l (omega arith) (g .rowOwned)
-
-  free-period : length (periodsOf c b) < 128 → (freePeriod b < 1024) × (periodAt b (freePeriod b) .csd ≡ 0)
-  unfolding periodsOf periodPlace periodHit periodMeets
-  free-period l =
-      found-free (λ r. r .csd) periodOf (periodAt b) 1024 8 128 (periodMeets Periods.Any) (λ x. refl) (λ a x y. g .lone a x y .periodsFew) c low high l (omega arith) (g .periodOwned)
+  own = good-of-sound (loneBook c b) (g .lone c low high)
 
   -- ---- T, R, M, A
 
   leaves-type : (d : ℕ) (t : M.TypeRecord) → typeFits t ≡ true → length (typesOf c b) < 16 → Leaves b (editIn b c (M.addType d t)) c (edited (loneBook c b) (M.addType d t))
   unfolding editIn storeType typeOf
   leaves-type d t f l =
-      let e = free-type l in
-      rw (lt-ltb (freeType b) 128 (e .0)) (type-added b (freeType b) (g .size) d (typeIn c t) (e .0) (e .1) low high (type-holds c high t f))
+      let e = free-type b g c low high l in
+      rw (lt-ltb (freeType b) 128 (e .0)) (type-added b (freeType b) (g .size) d (typeIn c t) (e .0) (e .1) low high (type-hold (typeIn c t) high f))
 
   leaves-rule : (d : ℕ) (r : M.Rule) → ruleFits r ≡ true → length (rulesOf c b) < 64 → Leaves b (editIn b c (M.addRule d r)) c (edited (loneBook c b) (M.addRule d r))
   unfolding editIn storeRule ruleOf
   leaves-rule d r f l =
-      let e = free-rule l in
-      rw (lt-ltb (freeRule b) 512 (e .0)) (rule-added b (freeRule b) (g .size) d (ruleIn c r) (e .0) (e .1) low high (rule-holds c high r f))
+      let e = free-rule b noRow g c low high l in
+      rw (lt-ltb (freeRule b) 512 (e .0)) (rule-added b (freeRule b) (g .size) d (ruleIn c r) (e .0) (e .1) low high (rule-hold (ruleIn c r) high f))
 
   leaves-row : (w : M.Row) → rowFits w ≡ true → length (rowsOf c b) < 128 → Leaves b (editIn b c (M.addRow w)) c (edited (loneBook c b) (M.addRow w))
   unfolding editIn storeRow rowOf
   leaves-row w f l =
-      let e = free-row l in
-      rw (lt-ltb (freeRow b) 1024 (e .0)) (row-added b (freeRow b) (g .size) (rowIn c w) (e .0) (e .1) low high (row-ten c high w f) (row-holds c high w f))
+      let e = free-row b noRow g c low high l in
+      rw (lt-ltb (freeRow b) 1024 (e .0)) (row-added b (freeRow b) (g .size) (rowIn c w) (e .0) (e .1) low high (row-ten w f) (row-hold (rowIn c w) high (row-ten w f) f))
 
   leaves-period : (d : ℕ) (p : M.Period) → periodFits p ≡ true → length (periodsOf c b) < 128 → Leaves b (editIn b c (M.addPeriod d p)) c (edited (loneBook c b) (M.addPeriod d p))
   unfolding editIn storePeriod periodOf
   leaves-period d p f l =
-      let e = free-period l in
-      rw (lt-ltb (freePeriod b) 1024 (e .0)) (period-added b (freePeriod b) (g .size) d (periodIn c p) (e .0) (e .1) low high (period-holds c high p f))
+      let e = free-period b g c low high l in
+      rw (lt-ltb (freePeriod b) 1024 (e .0)) (period-added b (freePeriod b) (g .size) d (periodIn c p) (e .0) (e .1) low high (period-hold (periodIn c p) high f))
 
   -- ---- D, N
 
   leaves-rule-out : (n o s : ℕ) → has (isRule n o s) (rulesOf c b) ≡ true → Leaves b (editIn b c (M.deleteRule n o s)) c (edited (loneBook c b) (M.deleteRule n o s))
-  unfolding editIn deletedRule storeRule rulePlace ruleHit ruleMeets rulesOf
+  unfolding editIn deletedRule storeRule ruleMeets
   leaves-rule-out n o s h =
-      let f = found (λ r. r .csd) ruleOf (ruleAt b) 512 c (ruleMeets (Rules.Named n o s) noRow) (has-true (ruleMeets (Rules.Named n o s) noRow) (rulesOf c b) h) in
+      let f = found-rule b c (Rules.Named n o s) noRow (has-true (ruleMeets (Rules.Named n o s) noRow) (rulesOf c b) h) in
       rw (lt-ltb (rulePlace b c (Rules.Named n o s) noRow) 512 (f .0))
       (rule-deleted b (rulePlace b c (Rules.Named n o s) noRow) c (g .size) low n o s (f .0) (f .1) (f .2) (own .ruleOnce n o s))
 
   leaves-row-out : (w : M.Row) → has (isRow w) (rowsOf c b) ≡ true → Leaves b (editIn b c (M.deleteRow w)) c (edited (loneBook c b) (M.deleteRow w))
-  unfolding editIn deletedRow storeRow rowPlace rowHit rowMeets rowsOf
+  unfolding editIn deletedRow storeRow rowMeets
   leaves-row-out w h =
-      let f = found (λ r. r .csd) rowOf (rowAt b) 1024 c (rowMeets Rows.Same w) (has-true (rowMeets Rows.Same w) (rowsOf c b) h) in
+      let f = found-row b c Rows.Same w (has-true (rowMeets Rows.Same w) (rowsOf c b) h) in
       rw (lt-ltb (rowPlace b c Rows.Same w) 1024 (f .0))
       (row-deleted b (rowPlace b c Rows.Same w) c (g .size) low w (f .0) (f .1) (f .2) (own .rowOnce w))
 
@@ -124,19 +103,19 @@ module _ (b : List ℕ) (c : ℕ) (g : GoodBook b) (low : 1 ≤ c) (high : c ≤
   period-fits = every-at (λ r. r .csd) periodOf c periodFits (periodAt b) 1024 (own .periodsFit)
 
   leaves-type-end : (d n o last : ℕ) → holds day last ≡ true → has (isType n o) (typesOf c b) ≡ true → Leaves b (editIn b c (M.endType d n o last)) c (edited (loneBook c b) (M.endType d n o last))
-  unfolding editIn endedType storeType typePlace typeHit typeMeets typesOf
+  unfolding editIn endedType storeType typeMeets
   leaves-type-end d n o last e h =
       let i = typePlace b c (Types.Named n o) in
-      let f = found (λ r. r .csd) typeOf (typeAt b) 128 c (typeMeets (Types.Named n o)) (has-true (typeMeets (Types.Named n o)) (typesOf c b) h) in
+      let f = found-type b c (Types.Named n o) (has-true (typeMeets (Types.Named n o)) (typesOf c b) h) in
       rw (lt-ltb i 128 (f .0))
       (type-ended b i c (g .size) low high d n o last (f .0) (f .1) (f .2) (own .typeOnce n o)
       (type-ended-holds last (typeAt b i) (omega (arith, f .1)) (type-fits i (f .0) (f .1)) e))
 
   leaves-period-end : (d κ n o first last : ℕ) → holds day last ≡ true → has (isPeriod κ n o first) (periodsOf c b) ≡ true → Leaves b (editIn b c (M.endPeriod d κ n o first last)) c (edited (loneBook c b) (M.endPeriod d κ n o first last))
-  unfolding editIn endedPeriod storePeriod periodPlace periodHit periodMeets periodsOf
+  unfolding editIn endedPeriod storePeriod periodMeets
   leaves-period-end d κ n o first last e h =
       let i = periodPlace b c (Periods.Named κ n o first) in
-      let f = found (λ r. r .csd) periodOf (periodAt b) 1024 c (periodMeets (Periods.Named κ n o first)) (has-true (periodMeets (Periods.Named κ n o first)) (periodsOf c b) h) in
+      let f = found-period b c (Periods.Named κ n o first) (has-true (periodMeets (Periods.Named κ n o first)) (periodsOf c b) h) in
       rw (lt-ltb i 1024 (f .0))
       (period-ended b i c (g .size) low high d κ n o first last (f .0) (f .1) (f .2) (period-once (loneBook c b) own κ n o first)
       (period-ended-holds last (periodAt b i) (omega (arith, f .1)) (period-fits i (f .0) (f .1)) e))
@@ -144,14 +123,14 @@ module _ (b : List ℕ) (c : ℕ) (g : GoodBook b) (low : 1 ≤ c) (high : c ≤
   -- ---- O
 
   leaves-reorder : (n o s new : ℕ) → holds sequenceForm new ≡ true → has (isRule n o s) (rulesOf c b) ≡ true → Leaves b (editIn b c (M.reorder n o s new)) c (edited (loneBook c b) (M.reorder n o s new))
-  unfolding editIn reorderedRule storeRule rulePlace ruleHit ruleMeets rulesOf reorderIn
+  unfolding editIn reorderedRule storeRule ruleMeets reorderIn
   leaves-reorder n o s new e h =
       let i = rulePlace b c (Rules.Named n o s) noRow in
-      let f = found (λ r. r .csd) ruleOf (ruleAt b) 512 c (ruleMeets (Rules.Named n o s) noRow) (has-true (ruleMeets (Rules.Named n o s) noRow) (rulesOf c b) h) in
+      let f = found-rule b c (Rules.Named n o s) noRow (has-true (ruleMeets (Rules.Named n o s) noRow) (rulesOf c b) h) in
       rw (lt-ltb i 512 (f .0))
       (reordered b i c n o s new (g .size) low high (f .0) (f .1) (f .2) (own .ruleOnce n o s)
       (rule-with-holds new (ruleAt b i) (omega (arith, f .1)) (rule-fits i (f .0) (f .1)) e)
-      (λ k l z. row-with-holds new (rowAt b k) (omega (arith, z)) (row-fits k l z) e))
+      (λ k l z. row-with-holds new (rowAt b k) (omega (arith, z)) (ten-values c n o s new b k) (row-fits k l z) e))
 
   leaves-nothing : (q : M.Question) → Leaves b (editIn b c (M.ask q)) c (edited (loneBook c b) (M.ask q))
   unfolding editIn edited
@@ -196,4 +175,3 @@ module _ (b : List ℕ) (c : ℕ) (g : GoodBook b) (low : 1 ≤ c) (high : c ≤
       let h = none-hold (conditions (loneBook c b) (M.endPeriod d κ n o first last)) refl e in
       leaves-period-end d κ n o first last f (not-false (has (isPeriod κ n o first) (periodsOf c b)) (h .1 .0))
   edit-leaves (M.ask q) f e = leaves-nothing q
-

@@ -1,4 +1,3 @@
-pub mod Kept
 pub mod Edits
 pub mod Carried
 pub mod Widths

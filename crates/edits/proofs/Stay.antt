@@ -21,44 +21,13 @@ use Rattle.records.specs.Free.{typeZero, ruleZero, rowZero, periodZero}
 use Rattle.records.proofs.Nobody.{type-nobody, rule-nobody, row-nobody, period-nobody}
 use Rattle.book.specs.Lone.{loneBook}
 use Rattle.book.specs.Sound.{placed, allPlaced, sound}
-use Rattle.edits.specs.GoodBook.{GoodBook}
+use Rattle.book.proofs.Facts.{facts-of-sound}
 use Rattle.edits.specs.Leaves.{Leaves}
 use Rattle.edits.specs.Edit.{editIn}
 use Rattle.edits.proofs.Leave.{edit-leaves}
 
--- ---- a sound book as facts
-
--- a place that is not free is a depository's
-owned : {P : Type 0} (csd : P → ℕ) (free : P → Bool) (at : ℕ → P) (n : ℕ) → ((x : P) → free x ≡ true → csd x ≡ 0) → placed csd free at n ≡ true → (k : ℕ) → k < n → (csd (at k) ≡ 0 → ⊥) → (1 ≤ csd (at k)) × (csd (at k) ≤ 8)
-unfolding placed
-owned csd free at n nobody e k l u =
-    let h = all-at (λ k. free (at k) || within 1 8 (csd (at k))) n e k l in
-    cases (free (at k))
-    (λ z. absurd (u (nobody (at k) z)))
-    (λ z.
-    let w : within 1 8 (csd (at k)) ≡ true = rw z at h in
-    (leb-true 1 (csd (at k)) (search ands), leb-true (csd (at k)) 8 (search ands)))
-
-each-lone : (b : List ℕ) → allBelow (λ a. soundLone (loneBook (a + 1) b)) 8 ≡ true → (a : ℕ) → 1 ≤ a → a ≤ 8 → soundLone (loneBook a b) ≡ true
-each-lone b e a l h =
-    let z : a - 1 + 1 ≡ a = omega arith in
-    rw z at (all-at (λ a. soundLone (loneBook (a + 1) b)) 8 e (a - 1) (omega arith))
-
 pub sound-lone : (b : List ℕ) → sound b ≡ true → (a : ℕ) → 1 ≤ a → a ≤ 8 → soundLone (loneBook a b) ≡ true
-unfolding sound
-sound-lone b e = each-lone b (search ands)
-
-pub good-book : (b : List ℕ) → sound b ≡ true → GoodBook b
-unfolding sound allPlaced
-good-book b e =
-    record {
-      size = eqb-true (length b) 51200 (search ands);
-      typeOwned = owned (λ r. r .csd) typeZero (typeAt b) 128 type-nobody (search ands);
-      ruleOwned = owned (λ r. r .csd) ruleZero (ruleAt b) 512 rule-nobody (search ands);
-      rowOwned = owned (λ r. r .csd) rowZero (rowAt b) 1024 row-nobody (search ands);
-      periodOwned = owned (λ r. r .csd) periodZero (periodAt b) 1024 period-nobody (search ands);
-      lone = λ a l h. good-of-sound (loneBook a b) (each-lone b (search ands) a l h);
-    }
+sound-lone b e = facts-of-sound b e .lone
 
 -- ---- after an edit
 
@@ -71,15 +40,15 @@ module _ (b b′ : List ℕ) (c : ℕ) (m : M.Book) (e : sound b ≡ true) (l : 
         l .size ∙ eqb-true (length b) 51200 (search ands),
         l .places (search ands),
         all-put (λ a. soundLone (loneBook (a + 1) b′)) 8
-        (λ a h.
-        cases-eq c (a + 1)
-        (λ z. rw (← z) (sound-same (loneBook c b′) m (l .own) ∙ s))
-        (λ z. ap soundLone (l .others (a + 1) (omega arith) z) ∙ sound-lone b e (a + 1) (omega arith) (omega arith))),
+            (λ a h.
+            cases-eq c (a + 1)
+            (λ z. rw (← z) (sound-same (loneBook c b′) m (l .own) ∙ s))
+            (λ z. ap soundLone (l .others (a + 1) (omega arith) z) ∙ sound-lone b e (a + 1) (omega arith) (omega arith))),
       )
 
 module _ (b : List ℕ) (c : ℕ) (e : sound b ≡ true) (low : 1 ≤ c) (high : c ≤ 8) (k : M.Command) (f : fits k ≡ true) (r : refusal (loneBook c b) k ≡ 0) where
   pub edit-left : Leaves b (editIn b c k) c (edited (loneBook c b) k)
-  edit-left = edit-leaves b c (good-book b e) low high k f r
+  edit-left = edit-leaves b c (facts-of-sound b e) low high k f r
 
   pub edit-sound : sound (editIn b c k) ≡ true
   edit-sound =

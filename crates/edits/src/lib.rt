@@ -354,13 +354,33 @@ fn type_from(v: [u32; 16]) -> RestrictionType
 fn rule_from(v: [u32; 16]) -> Rule
     ensures { λ r. ⌜ r ≡ ruleFrom v ⌝ }
 {
-    Rule::new(low(v[0]), low(v[2]), low(v[3]), low(v[4]), low(v[5]), v[6], v[7], v[8])
+    Rule::new(
+        low(v[0]),
+        low(v[2]),
+        low(v[3]),
+        low(v[4]),
+        low(v[5]),
+        v[6],
+        v[7],
+        v[8],
+    )
 }
 
 fn row_from(v: [u32; 16]) -> Row
     ensures { λ r. ⌜ r ≡ rowFrom v ⌝ }
 {
-    let values = [v[5], v[6], v[7], v[8], v[9], v[10], v[11], v[12], v[13], v[14]];
+    let values = [
+        v[5],
+        v[6],
+        v[7],
+        v[8],
+        v[9],
+        v[10],
+        v[11],
+        v[12],
+        v[13],
+        v[14],
+    ];
     Row::new(low(v[0]), low(v[2]), low(v[3]), low(v[4]), values)
 }
 

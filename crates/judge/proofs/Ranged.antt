@@ -17,7 +17,7 @@ use Rattle.book.specs.Lone.{rulesOf, rowsOf, periodsOf, loneBook}
 pub record Ranged (a : ℕ) (b : List ℕ) : Type 0 where
   pub periods : (i : ℕ) → i < 1024 → periodAt b i .csd ≡ a → (periodAt b i .code < 10000) × (periodAt b i .kind < 4)
   pub rows : (i : ℕ) → i < 1024 → rowAt b i .csd ≡ a → (rowAt b i .number < 100) × (rowAt b i .sequence < 100)
-  pub rules : (i : ℕ) → i < 512 → ruleAt b i .csd ≡ a → (ruleAt b i .number < 100) × (1 ≤ ruleAt b i .sequence) × (ruleAt b i .sequence < 100) × (ruleAt b i .sign < 4)
+  pub rules : (i : ℕ) → i < 512 → ruleAt b i .csd ≡ a → (ruleAt b i .number < 100) × (1 ≤ ruleAt b i .sequence) × (ruleAt b i .sequence < 100) × (ruleAt b i .sign < 3)
 
 pub ranged : (a : ℕ) (b : List ℕ) → soundLone (loneBook a b) ≡ true → Ranged a b
 unfolding periodsOf periodOf periodFits rowsOf rowOf rowFits rulesOf ruleOf ruleFits keyFits holds

@@ -22,7 +22,7 @@ use Rattle.meaning.specs.Sound.{soundLone}
 use Rattle.places.specs.Layout.{typeAt, ruleAt, rowAt, periodAt}
 use Rattle.records.specs.Said.{typeOf, ruleOf, rowOf, periodOf}
 use Rattle.book.specs.Lone.{typesOf, rulesOf, rowsOf, periodsOf, loneBook}
-use Rattle.judge.specs.Stages.{asked, codeKey, ruleKey, signKey, tableSize, sought, borneBy, codesBorne, tests, rowMatches, rowsMatched, ruleMatches, rulesMatched, firstRule, typeApplies, typesNamed, decided, verdict, rulesOn, judgedBy}
+use Rattle.judge.specs.Stages.{asked, codeKey, ruleKey, signKey, periodKey, rowKey, signedKey, codeKeys, ruleKeys, signKeys, sought, borneBy, codesBorne, tests, rowMatches, rowsMatched, ruleMatches, rulesMatched, firstRule, typeApplies, typesNamed, decided, verdict, rulesOn, judgedBy}
 use Rattle.judge.specs.declared.Question.{Question}
 use Rattle.judge.proofs.Ranged.{Ranged, ranged}
 use Rattle.judge.proofs.Rows.{row-met}
@@ -71,7 +71,7 @@ module _ (b : List ℕ) (q : Question) (r : Ranged (q .csd) b) where
   codes : (kind : ℕ) → kind < 4 → (v : ℕ) → codesBorne b q (codeKey v kind) ≡ bears lone (asked q) kind (sought q kind) v
   unfolding lone codesBorne borneBy bears periodsOf periodOf
   codes kind low v =
-      keys-all tableSize (λ p. p .csd) (q .csd) (periodAt b) (λ p. codeKey (p .code) (p .kind)) (borneBy q) 1024
+      keys-all codeKeys (λ p. p .csd) (q .csd) (periodAt b) periodKey (borneBy q) 1024
       (λ i l o e. let x = r .periods i l o in omega (arith, x .0, x .1)) (codeKey v kind)
       ∙ any-same _ _ 1024
       (λ i l.
@@ -116,7 +116,7 @@ module _ (b : List ℕ) (q : Question) (r : Ranged (q .csd) b) where
   rows : (t x : ℕ) → x < 100 → rowsMatched b q (codesBorne b q) (ruleKey t x) ≡ rows-of t x
   unfolding lone rowsMatched rowMatches rows-of ofRule rowsOf rowOf
   rows t x low =
-      keys-all tableSize (λ w. w .csd) (q .csd) (rowAt b) (λ w. ruleKey (w .number) (w .sequence)) (rowMatches q (codesBorne b q)) 1024
+      keys-all ruleKeys (λ w. w .csd) (q .csd) (rowAt b) rowKey (rowMatches q (codesBorne b q)) 1024
       (λ i l o e. let y = r .rows i l o in omega (arith, y .0, y .1)) (ruleKey t x)
       ∙ any-same _ _ 1024
       (λ i l.
@@ -142,10 +142,10 @@ module _ (b : List ℕ) (q : Question) (r : Ranged (q .csd) b) where
   unfolding rules-of
   in-range t sign i l e = let y = r .rules i l (eqb-true (ruleAt b i .csd) (q .csd) (search ands)) in (y .1, y .2)
 
-  rules : (t x sign : ℕ) → x < 100 → sign < 4 → rulesOn b q (signKey t x sign) ≡ anyBelow (λ i. rules-of t sign i && eqb (ruleAt b i .sequence) x) 512
-  unfolding rulesOn rulesMatched ruleMatches rules-of rows-of speaks matches ruleOf
+  rules : (t x sign : ℕ) → x < 100 → sign < 3 → rulesOn b q (signKey t x sign) ≡ anyBelow (λ i. rules-of t sign i && eqb (ruleAt b i .sequence) x) 512
+  unfolding rulesMatched ruleMatches rules-of rows-of speaks matches ruleOf
   rules t x sign low few =
-      keys-all tableSize (λ r. r .csd) (q .csd) (ruleAt b) (λ r. signKey (r .number) (r .sequence) (r .sign)) (ruleMatches q (rowsMatched b q (codesBorne b q))) 512
+      keys-all signKeys (λ r. r .csd) (q .csd) (ruleAt b) signedKey (ruleMatches q (rowsMatched b q (codesBorne b q))) 512
       (λ i l o e. let y = r .rules i l o in omega (arith, y .0, y .2, y .3)) (signKey t x sign)
       ∙ any-same _ _ 512
       (λ i l.
@@ -154,7 +154,7 @@ module _ (b : List ℕ) (q : Question) (r : Ranged (q .csd) b) where
       let y = r .rules i l (eqb-true (ruleAt b i .csd) (q .csd) e) in
       rw (
         e,
-        parts-eq 4 (ruleKey (ruleAt b i .number) (ruleAt b i .sequence)) (ruleAt b i .sign) (ruleKey t x) sign (y .3) few,
+        parts-eq 3 (ruleKey (ruleAt b i .number) (ruleAt b i .sequence)) (ruleAt b i .sign) (ruleKey t x) sign (y .3) few,
         parts-eq 100 (ruleAt b i .number) (ruleAt b i .sequence) t x (y .2) low,
       )
       (rule-order (eqb (ruleAt b i .object) (q .object)) (covers (ruleAt b i .first) (ruleAt b i .last) (q .day))
@@ -167,7 +167,7 @@ module _ (b : List ℕ) (q : Question) (r : Ranged (q .csd) b) where
       (λ e. rw e))
 
   -- 4. What is found in rising sequence is what the written meaning finds among the rules.
-  firsts : (t sign : ℕ) → sign < 4 → firstRule (rulesOn b q) t sign ≡ leastBelow (λ i. cond (rules-of t sign i) (ruleAt b i .sequence) 0) 512
+  firsts : (t sign : ℕ) → sign < 3 → firstRule (rulesOn b q) t sign ≡ leastBelow (λ i. cond (rules-of t sign i) (ruleAt b i .sequence) 0) 512
   unfolding firstRule
   firsts t sign few =
       least-same _ _ 100 (λ x l. ap (λ z. cond z x 0) (rules t x sign l few))
@@ -177,7 +177,7 @@ module _ (b : List ℕ) (q : Question) (r : Ranged (q .csd) b) where
   unfolding lone rules-of deciding rulesOf ruleOf
   decides t = firsts t positive (omega arith) ∙ sym (least-lone (λ r. r .csd) ruleOf (q .csd) (ruleAt b) _ _ 512)
 
-  none-speaks : (t sign : ℕ) → sign < 4 → eqb (firstRule (rulesOn b q) t sign) 0 ≡ not (has (speaks lone (asked q) t sign) (lone .rules))
+  none-speaks : (t sign : ℕ) → sign < 3 → eqb (firstRule (rulesOn b q) t sign) 0 ≡ not (has (speaks lone (asked q) t sign) (lone .rules))
   unfolding lone rules-of rulesOf
   none-speaks t sign few =
       ap (λ z. eqb z 0) (firsts t sign few)

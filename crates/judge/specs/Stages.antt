@@ -35,7 +35,7 @@ asked q = record {
   security = q .security;
 }
 
--- ---- the keys: the last part of each is below 4 or below 100
+-- ---- the keys of the tables: the last part of each is below 4, 3 or 100
 
 -- a code of a kind
 abbrev pub codeKey : ℕ → ℕ → ℕ
@@ -45,13 +45,29 @@ codeKey code kind = code * 4 + kind
 abbrev pub ruleKey : ℕ → ℕ → ℕ
 ruleKey type sequence = type * 100 + sequence
 
--- a rule with its sign
+-- such a rule with its sign
 abbrev pub signKey : ℕ → ℕ → ℕ → ℕ
-signKey type sequence sign = ruleKey type sequence * 4 + sign
+signKey type sequence sign = ruleKey type sequence * 3 + sign
 
--- the size of a table of marks
-abbrev pub tableSize : ℕ
-tableSize = 40000
+-- by record
+abbrev pub periodKey : Period → ℕ
+periodKey p = codeKey (p .code) (p .kind)
+
+abbrev pub rowKey : Row → ℕ
+rowKey w = ruleKey (w .number) (w .sequence)
+
+abbrev pub signedKey : Rule → ℕ
+signedKey r = signKey (r .number) (r .sequence) (r .sign)
+
+-- the sizes of the tables
+abbrev pub codeKeys : ℕ
+codeKeys = 40000
+
+abbrev pub ruleKeys : ℕ
+ruleKeys = 10000
+
+abbrev pub signKeys : ℕ
+signKeys = 30000
 
 -- ---- 1. the codes that the question's party, account and security bear on the day
 
@@ -64,10 +80,10 @@ borneBy q p = eqb (p .number) (sought q (p .kind)) && covers (p .first) (p .last
 
 -- the table of codes after the period at place i
 abbrev pub markCode : List ℕ → Question → ℕ → List ℕ → List ℕ
-markCode b q i t = afterPlace (λ p. p .csd) (q .csd) (λ p. codeKey (p .code) (p .kind)) (borneBy q) (λ p m. 1) (periodAt b i) t
+markCode b q i t = afterPlace (λ p. p .csd) (q .csd) periodKey (borneBy q) (λ p m. 1) (periodAt b i) t
 
 unfoldable pub codesBorne : List ℕ → Question → ℕ → Bool
-codesBorne b q = keys (λ p. p .csd) (q .csd) (periodAt b) (λ p. codeKey (p .code) (p .kind)) (borneBy q) tableSize 1024
+codesBorne b q = keys (λ p. p .csd) (q .csd) (periodAt b) periodKey (borneBy q) codeKeys 1024
 
 -- ---- 2. the rules of which a row matches
 
@@ -102,11 +118,11 @@ rowMatches q codes w = eqb (w .object) (q .object) && valuesMet (tests q codes) 
 -- the table of rules with a matching row, after the row at place i
 abbrev pub markRow : List ℕ → Question → (ℕ → Bool) → ℕ → List ℕ → List ℕ
 markRow b q codes i t =
-    afterPlace (λ w. w .csd) (q .csd) (λ w. ruleKey (w .number) (w .sequence)) (rowMatches q codes) (λ w m. 1) (rowAt b i) t
+    afterPlace (λ w. w .csd) (q .csd) rowKey (rowMatches q codes) (λ w m. 1) (rowAt b i) t
 
 unfoldable pub rowsMatched : List ℕ → Question → (ℕ → Bool) → ℕ → Bool
 rowsMatched b q codes =
-    keys (λ w. w .csd) (q .csd) (rowAt b) (λ w. ruleKey (w .number) (w .sequence)) (rowMatches q codes) tableSize 1024
+    keys (λ w. w .csd) (q .csd) (rowAt b) rowKey (rowMatches q codes) ruleKeys 1024
 
 -- ---- 3. the rules of each sign that match
 
@@ -117,11 +133,11 @@ ruleMatches q rows r =
 -- the table of matching rules, after the rule at place i
 abbrev pub markRule : List ℕ → Question → (ℕ → Bool) → ℕ → List ℕ → List ℕ
 markRule b q rows i t =
-    afterPlace (λ r. r .csd) (q .csd) (λ r. signKey (r .number) (r .sequence) (r .sign)) (ruleMatches q rows) (λ r m. 1) (ruleAt b i) t
+    afterPlace (λ r. r .csd) (q .csd) signedKey (ruleMatches q rows) (λ r m. 1) (ruleAt b i) t
 
 unfoldable pub rulesMatched : List ℕ → Question → (ℕ → Bool) → ℕ → Bool
 rulesMatched b q rows =
-    keys (λ r. r .csd) (q .csd) (ruleAt b) (λ r. signKey (r .number) (r .sequence) (r .sign)) (ruleMatches q rows) tableSize 512
+    keys (λ r. r .csd) (q .csd) (ruleAt b) signedKey (ruleMatches q rows) signKeys 512
 
 -- ---- 4. the rules of a type, looked through in rising sequence
 
@@ -162,7 +178,7 @@ verdict rules named = record {
 }
 
 -- the rules that match the question, by the book's bytes
-unfoldable pub rulesOn : List ℕ → Question → ℕ → Bool
+abbrev pub rulesOn : List ℕ → Question → ℕ → Bool
 rulesOn b q = rulesMatched b q (rowsMatched b q (codesBorne b q))
 
 -- the verdict, by the book's bytes

@@ -6,7 +6,7 @@ ghost use lib.ListN.{set, getD};
 ghost use Rattle.tables.specs.Count.{lesser};
 ghost use Rattle.tables.specs.Keyed.{marked, Blank};
 ghost use Rattle.meaning.specs.Judging.{covers};
-ghost use Rattle.judge.specs.Stages.{codeKey, ruleKey, signKey, tableSize, sought, borneBy, markCode, codesBorne, tests, testAt, valuesMet, rowMatches, markRow, rowsMatched, ruleMatches, markRule, rulesMatched, firstRule, typeApplies, nameType, typesNamed, decided, verdict, rulesOn, judgedBy};
+ghost use Rattle.judge.specs.Stages.{codeKey, ruleKey, signKey, codeKeys, ruleKeys, signKeys, sought, borneBy, markCode, codesBorne, tests, testAt, valuesMet, rowMatches, markRow, rowsMatched, ruleMatches, markRule, rulesMatched, firstRule, typeApplies, nameType, typesNamed, decided, verdict, judgedBy};
 use meaning::Deciding;
 use meaning::Verdict;
 use places::Period;
@@ -98,7 +98,7 @@ fn rule_key(number: u8, sequence: u8) -> usize
 fn sign_key(number: u8, sequence: u16, sign: u8) -> usize
     ensures { λ r. ⌜ r ≡ signKey number sequence sign ⌝ }
 {
-    (number as usize * 100 + sequence as usize) * 4 + sign as usize
+    (number as usize * 100 + sequence as usize) * 3 + sign as usize
 }
 
 fn processing_key(processing: u8) -> usize
@@ -107,15 +107,28 @@ fn processing_key(processing: u8) -> usize
     processing as usize
 }
 
-// A table of marks without one. In a function of its own, so that no proof shows its cells.
-fn unmarked() -> [u8; 40000]
-    ensures { λ r. ⌜ Blank tableSize r ⌝ }
+// Tables without a mark, each in a function of its own, so that no proof shows its cells.
+
+fn no_codes() -> [u8; 40000]
+    ensures { λ r. ⌜ Blank codeKeys r ⌝ }
 {
     [0; 40000]
 }
 
+fn no_rows() -> [u8; 10000]
+    ensures { λ r. ⌜ Blank ruleKeys r ⌝ }
+{
+    [0; 10000]
+}
+
+fn no_rules() -> [u8; 30000]
+    ensures { λ r. ⌜ Blank signKeys r ⌝ }
+{
+    [0; 30000]
+}
+
 // No type for any processing, 0 to 3.
-fn unnamed() -> [u8; 4]
+fn no_types() -> [u8; 4]
     ensures { λ r. ⌜ Blank 4 r ⌝ }
 {
     [0; 4]
@@ -165,6 +178,7 @@ fn sought(q: Question, kind: u8) -> u32
     )
 }
 
+// A period of the question's party, account or security that covers the day.
 fn borne_by(q: Question, p: Period) -> bool
     ensures { λ r. ⌜ r ≡ borneBy q p ⌝ }
 {
@@ -174,6 +188,7 @@ fn borne_by(q: Question, p: Period) -> bool
     )
 }
 
+// Marks the code of the period at a place, if it is borne.
 fn mark_code(t: &mut [u8], b: &[u8], q: Question, i: u16)
     ensures { λ _. ⌜ now (t .exit) ≡ markCode (now (b .entry)) q i (now (t .entry)) ⌝ }
 {
@@ -186,14 +201,14 @@ fn mark_code(t: &mut [u8], b: &[u8], q: Question, i: u16)
 fn codes_borne(b: &[u8], q: Question) -> [u8; 40000]
     ensures { λ r. ⌜ marked r ≡ codesBorne (now (b .entry)) q ⌝ }
 {
-    let mut t = unmarked();
+    let mut t = no_codes();
     for i in 0..Period::PLACES {
         mark_code(&mut t, b, q, i);
     }
     t
 }
 
-// 2. The rules of which a row matches.
+// 2. The rules of which a row matches. A row fills exactly its rule's criteria, so its filled values tell which are tested.
 
 // Whether the question meets a value at a criterion.
 fn criterion_met(i: u8, v: u32, q: Question, codes: &[u8]) -> bool
@@ -226,6 +241,7 @@ fn values_met(values: [u32; 10], q: Question, codes: &[u8]) -> bool
     met
 }
 
+// A row without a filled value matches; a sound book has none.
 fn row_matches(q: Question, codes: &[u8], w: Row) -> bool
     ensures { λ r. ⌜ r ≡ rowMatches q (marked (now (codes .entry))) w ⌝ }
 {
@@ -233,6 +249,7 @@ fn row_matches(q: Question, codes: &[u8], w: Row) -> bool
     and(w.object == q.object, values_met(values, q, codes))
 }
 
+// Marks the rule of the row at a place, if the row matches.
 fn mark_row(t: &mut [u8], b: &[u8], q: Question, codes: &[u8], i: u16)
     ensures { λ _. ⌜ now (t .exit) ≡ markRow (now (b .entry)) q (marked (now (codes .entry))) i (now (t .entry)) ⌝ }
 {
@@ -247,10 +264,10 @@ fn mark_row(t: &mut [u8], b: &[u8], q: Question, codes: &[u8], i: u16)
     }
 }
 
-fn rows_matched(b: &[u8], q: Question, codes: &[u8]) -> [u8; 40000]
+fn rows_matched(b: &[u8], q: Question, codes: &[u8]) -> [u8; 10000]
     ensures { λ r. ⌜ marked r ≡ rowsMatched (now (b .entry)) q (marked (now (codes .entry))) ⌝ }
 {
-    let mut t = unmarked();
+    let mut t = no_rows();
     for i in 0..Row::PLACES {
         mark_row(&mut t, b, q, codes, i);
     }
@@ -259,6 +276,7 @@ fn rows_matched(b: &[u8], q: Question, codes: &[u8]) -> [u8; 40000]
 
 // 3. The rules of each sign that match.
 
+// A rule counts only while its own period holds the day, a negative one too.
 fn rule_matches(q: Question, rows: &[u8], r: Rule) -> bool
     ensures { λ x. ⌜ x ≡ ruleMatches q (marked (now (rows .entry))) r ⌝ }
 {
@@ -267,6 +285,7 @@ fn rule_matches(q: Question, rows: &[u8], r: Rule) -> bool
     and(r.object == q.object, and(current, matched))
 }
 
+// Marks the rule at a place by its sequence and sign, if it matches.
 fn mark_rule(t: &mut [u8], b: &[u8], q: Question, rows: &[u8], i: u16)
     ensures { λ _. ⌜ now (t .exit) ≡ markRule (now (b .entry)) q (marked (now (rows .entry))) i (now (t .entry)) ⌝ }
 {
@@ -278,10 +297,10 @@ fn mark_rule(t: &mut [u8], b: &[u8], q: Question, rows: &[u8], i: u16)
     }
 }
 
-fn rules_matched(b: &[u8], q: Question, rows: &[u8]) -> [u8; 40000]
+fn rules_matched(b: &[u8], q: Question, rows: &[u8]) -> [u8; 30000]
     ensures { λ r. ⌜ marked r ≡ rulesMatched (now (b .entry)) q (marked (now (rows .entry))) ⌝ }
 {
-    let mut t = unmarked();
+    let mut t = no_rules();
     for i in 0..Rule::PLACES {
         mark_rule(&mut t, b, q, rows, i);
     }
@@ -317,6 +336,7 @@ fn type_applies(q: Question, rules: &[u8], t: RestrictionType) -> bool
     }
 }
 
+// Keeps the type at a place, if it applies and is the lowest of its processing so far.
 fn name_type(t: &mut [u8], b: &[u8], q: Question, rules: &[u8], i: u16)
     ensures { λ _. ⌜ now (t .exit) ≡ nameType (now (b .entry)) q (marked (now (rules .entry))) i (now (t .entry)) ⌝ }
 {
@@ -331,7 +351,7 @@ fn name_type(t: &mut [u8], b: &[u8], q: Question, rules: &[u8], i: u16)
 fn types_named(b: &[u8], q: Question, rules: &[u8]) -> [u8; 4]
     ensures { λ r. ⌜ (λ k. getD r k 0) ≡ typesNamed (now (b .entry)) q (marked (now (rules .entry))) ⌝ }
 {
-    let mut t = unnamed();
+    let mut t = no_types();
     for i in 0..RestrictionType::PLACES {
         name_type(&mut t, b, q, rules, i);
     }
@@ -370,20 +390,13 @@ fn verdict(rules: &[u8], named: &[u8]) -> Verdict
     }
 }
 
-// The rules that match the question.
-fn rules_on(b: &[u8], q: Question) -> [u8; 40000]
-    ensures { λ r. ⌜ marked r ≡ rulesOn (now (b .entry)) q ⌝ }
-{
-    let codes = codes_borne(b, q);
-    let rows = rows_matched(b, q, &codes);
-    rules_matched(b, q, &rows)
-}
-
 // The verdict on a question, for any bytes; over a sound book it is the written meaning's (proofs/Right.antt).
 pub fn judge(book: &[u8], q: Question) -> Verdict
     ensures { λ r. ⌜ r ≡ judgedBy (now (book .entry)) q ⌝ }
 {
-    let rules = rules_on(book, q);
+    let codes = codes_borne(book, q);
+    let rows = rows_matched(book, q, &codes);
+    let rules = rules_matched(book, q, &rows);
     let named = types_named(book, q, &rules);
     verdict(&rules, &named)
 }

@@ -101,9 +101,9 @@ known line =
 -- ---- the numbers' ranges
 
 -- a letter has one to fifteen fields
-pub record Shaped (φs : List Form) : Type 0 where
-  pub some : 0 < length φs
-  pub few : length φs ≤ 15
+record Shaped (φs : List Form) : Type 0 where
+  some : 0 < length φs
+  few : length φs ≤ 15
 
 shaped : (l : Letter) → Shaped (formsOf l)
 unfolding formsOf

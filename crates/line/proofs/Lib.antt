@@ -1,4 +1,4 @@
-pub mod Walk
+pub mod Loops
 pub mod Capped
 pub mod Padding
 pub mod TableRule

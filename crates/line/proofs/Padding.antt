@@ -55,36 +55,27 @@ sets-padded n [] = sym (padded-none n)
 sets-padded zero (x ∷ ns) = sets-nothing ns 1
 sets-padded (suc n) (x ∷ ns) = sets-later ns x 0 (replicate n 0) ∙ ap (λ l. x ∷ l) (sets-padded n ns)
 
+-- the first n values of f
+abbrev values : (ℕ → ℕ) → ℕ → List ℕ
+values f zero = []
+values f (suc n) = f 0 ∷ values (λ i. f (suc i)) n
+
+padded-values : (n : ℕ) (ns : List ℕ) → padded n ns ≡ values (λ i. getD ns i 0) n
+unfolding padded
+padded-values zero ns = refl
+padded-values (suc n) [] = ap (λ l. 0 ∷ l) (padded-values n [])
+padded-values (suc n) (x ∷ ns) = ap (λ l. x ∷ l) (padded-values n ns)
+
 -- What a line asks is the same by the row of sixteen as by the fields' numbers.
 pub command-padded : (l : Letter) (ns : List ℕ) → commandOf l (padded 16 ns) ≡ commandOf l ns
 unfolding commandOf
-command-padded letterT ns =
-    let h = padded-at 16 ns in
-    rw (h 1 (omega arith), h 2 (omega arith), h 3 (omega arith), h 4 (omega arith), h 5 (omega arith), h 6 (omega arith))
-command-padded letterE ns =
-    let h = padded-at 16 ns in
-    rw (h 1 (omega arith), h 2 (omega arith), h 3 (omega arith), h 4 (omega arith))
-command-padded letterR ns =
-    let h = padded-at 16 ns in
-    rw (h 1 (omega arith), h 2 (omega arith), h 3 (omega arith), h 4 (omega arith), h 5 (omega arith), h 6 (omega arith), h 7 (omega arith), h 8 (omega arith))
-command-padded letterO ns =
-    let h = padded-at 16 ns in
-    rw (h 2 (omega arith), h 3 (omega arith), h 4 (omega arith), h 5 (omega arith))
-command-padded letterD ns =
-    let h = padded-at 16 ns in
-    rw (h 2 (omega arith), h 3 (omega arith), h 4 (omega arith))
-command-padded letterM ns =
-    let h = padded-at 16 ns in
-    rw (h 2 (omega arith), h 3 (omega arith), h 4 (omega arith), h 5 (omega arith), h 6 (omega arith), h 7 (omega arith), h 8 (omega arith), h 9 (omega arith), h 10 (omega arith), h 11 (omega arith), h 12 (omega arith), h 13 (omega arith), h 14 (omega arith))
-command-padded letterN ns =
-    let h = padded-at 16 ns in
-    rw (h 2 (omega arith), h 3 (omega arith), h 4 (omega arith), h 5 (omega arith), h 6 (omega arith), h 7 (omega arith), h 8 (omega arith), h 9 (omega arith), h 10 (omega arith), h 11 (omega arith), h 12 (omega arith), h 13 (omega arith), h 14 (omega arith))
-command-padded letterA ns =
-    let h = padded-at 16 ns in
-    rw (h 1 (omega arith), h 2 (omega arith), h 3 (omega arith), h 4 (omega arith), h 5 (omega arith), h 6 (omega arith))
-command-padded letterZ ns =
-    let h = padded-at 16 ns in
-    rw (h 1 (omega arith), h 2 (omega arith), h 3 (omega arith), h 4 (omega arith), h 5 (omega arith), h 6 (omega arith))
-command-padded letterQ ns =
-    let h = padded-at 16 ns in
-    rw (h 1 (omega arith), h 2 (omega arith), h 3 (omega arith), h 4 (omega arith), h 5 (omega arith), h 6 (omega arith), h 7 (omega arith), h 8 (omega arith), h 9 (omega arith), h 10 (omega arith))
+command-padded letterT ns = rw (padded-values 16 ns)
+command-padded letterE ns = rw (padded-values 16 ns)
+command-padded letterR ns = rw (padded-values 16 ns)
+command-padded letterO ns = rw (padded-values 16 ns)
+command-padded letterD ns = rw (padded-values 16 ns)
+command-padded letterM ns = rw (padded-values 16 ns)
+command-padded letterN ns = rw (padded-values 16 ns)
+command-padded letterA ns = rw (padded-values 16 ns)
+command-padded letterZ ns = rw (padded-values 16 ns)
+command-padded letterQ ns = rw (padded-values 16 ns)

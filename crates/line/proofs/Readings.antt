@@ -20,7 +20,7 @@ use Rattle.line.specs.Table.{letterList, letter, placeOf, formsAt, Count
 use Rattle.line.specs.Line.{inRow, valuesOf, lineOf, numbersLine}
 use Rattle.line.specs.declared.reading.Values.{Values}
 use Rattle.line.specs.declared.reading.Line.{Line}
-use Rattle.line.proofs.Walk.{next, first-field}
+use Rattle.line.proofs.Loops.{next, first-field}
 use Rattle.line.proofs.TableRule.{entry}
 use Rattle.line.proofs.Padding.{command-padded}
 
@@ -82,7 +82,8 @@ pub none-after : (l : List ℕ) (e : ℕ) → length l ≤ e → 0 ≡ length (m
 unfolding more
 none-after l e h = rw (drop-of-length-le l h)
 
-pub some-after : (l : List ℕ) (e : ℕ) {n : ℕ} → e < length l → n ≡ length (fields (take (length l - (e + 1)) (drop (e + 1) l))) → n ≡ length (more (drop e l))
+pub some-after : (l : List ℕ) (e : ℕ) {n : ℕ} → e < length l → n ≡ length (fields (take (length l - (e + 1)) (drop (e + 1) l)))
+    → n ≡ length (more (drop e l))
 unfolding more
 some-after l e h q =
     let t : length (drop (e + 1) l) ≤ length l - (e + 1) = omega (arith, length-drop (e + 1) l) in
@@ -98,7 +99,8 @@ row-line l (some ns) =
     cases (wrong (commandOf l ns)) (λ e. rw (command-padded l ns, e)) (λ e. rw (command-padded l ns, e))
 
 module _ (l : List ℕ) (e p : ℕ) {x : Line} {n m : ℕ} where
-  pub miscounted : n ≡ length (more (drop e l)) → Counted p m → (n ≡ m → ⊥) → x ≡ lineOf (refused 4) → x ≡ lineOf (byLetter (some (letter p)) (more (drop e l)))
+  pub miscounted : n ≡ length (more (drop e l)) → Counted p m → (n ≡ m → ⊥) → x ≡ lineOf (refused 4)
+      → x ≡ lineOf (byLetter (some (letter p)) (more (drop e l)))
   unfolding byLetter formsAt
   miscounted a b f r = rw (← a, ← b .count, ne-eqb n m f) r
 

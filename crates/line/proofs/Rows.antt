@@ -1,4 +1,4 @@
--- How the loop over the fields meets the meaning's list of numbers.
+-- The loop over the fields stores the meaning's list of numbers.
 use mathlib.Core.Path.{_≡_, refl, ap, sym, _∙_}
 use mathlib.Core.List.{List}
 use mathlib.Core.Option.{Option, some, none}
@@ -13,7 +13,7 @@ use Rattle.line.specs.Values.{valueOf, more}
 use Rattle.line.specs.Table.{formsAt, Counted}
 use Rattle.line.specs.Parts.{Cuts}
 use Rattle.line.specs.Line.{inRow}
-use Rattle.line.proofs.Walk.{next-field}
+use Rattle.line.proofs.Loops.{next-field}
 use Rattle.line.proofs.Padding.{sets-padded}
 use Rattle.line.specs.declared.forms.Value.{Value}
 use Rattle.line.specs.declared.forms.Value.the-variants.{Is, Wrong}
@@ -41,7 +41,8 @@ pub record RowTo (p : ℕ) (l : List ℕ) (start : ℕ) (row : List ℕ) (i k : 
 pub row-start : (p : ℕ) (l : List ℕ) (start : ℕ) → RowTo p l start (replicate 16 0) start 0
 row-start p l start = record { long = refl; left = stored-row (readAll (formsAt p) (more (drop start l))) }
 
-pub row-inside : {p : ℕ} {l : List ℕ} {start : ℕ} {row : List ℕ} {i k e : ℕ} → RowTo p l start row i k → i < length l → Cuts l (i + 1) e → e ≤ length l
+pub row-inside : {p : ℕ} {l : List ℕ} {start : ℕ} {row : List ℕ} {i k e : ℕ} → RowTo p l start row i k → i < length l → Cuts l (i + 1) e
+    → e ≤ length l
 row-inside r t q = q .inside (omega arith)
 
 module _ {p : ℕ} {l : List ℕ} {start : ℕ} {row : List ℕ} {i k n : ℕ} where

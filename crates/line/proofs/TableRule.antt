@@ -42,7 +42,8 @@ past m zero n h r = omega arith
 past m (suc k) n h r = omega (arith, past m k n h (r .0), r .1)
 
 -- refusal 5 says nothing more of the letters that are not T, R, A or Q
-pub never-wrong : (p : ℕ) (v : List ℕ) → p < 10 → (((Unit {0} × (p ≡ 0 → ⊥)) × (p ≡ 2 → ⊥)) × (p ≡ 7 → ⊥)) × (p ≡ 9 → ⊥) → wrong (commandOf (letter p) v) ≡ false
+pub never-wrong : (p : ℕ) (v : List ℕ) → p < 10 → (((Unit {0} × (p ≡ 0 → ⊥)) × (p ≡ 2 → ⊥)) × (p ≡ 7 → ⊥)) × (p ≡ 9 → ⊥)
+    → wrong (commandOf (letter p) v) ≡ false
 unfolding wrong commandOf
 never-wrong zero v h r = absurd (r .0 .0 .0 .1 refl)
 never-wrong (suc zero) v h r = refl

@@ -22,10 +22,19 @@ abbrev pub typeWidths : List Width
 typeWidths = one ∷ one ∷ one ∷ one ∷ four ∷ four ∷ []
 
 abbrev pub typeFrom : List ℕ → RestrictionType
-typeFrom v = record { csd = getD v 0 0; number = getD v 1 0; object = getD v 2 0; processing = getD v 3 0; first = getD v 4 0; last = getD v 5 0 }
+typeFrom v = record {
+  csd = getD v 0 0;
+  number = getD v 1 0;
+  object = getD v 2 0;
+  processing = getD v 3 0;
+  first = getD v 4 0;
+  last = getD v 5 0;
+}
 
 abbrev pub typeNumbers : RestrictionType → List ℕ
-typeNumbers r = r .csd ∷ r .number ∷ r .object ∷ r .processing ∷ r .first ∷ r .last ∷ []
+typeNumbers r =
+    r .csd ∷ r .number ∷ r .object ∷ r .processing ∷ r .first
+    ∷ r .last ∷ []
 
 unfoldable pub typeAt : List ℕ → ℕ → RestrictionType
 typeAt b i = typeFrom (numbers typeWidths b (typeStart i) 0)
@@ -45,10 +54,21 @@ abbrev pub ruleWidths : List Width
 ruleWidths = one ∷ one ∷ one ∷ one ∷ one ∷ two ∷ four ∷ four ∷ []
 
 abbrev pub ruleFrom : List ℕ → Rule
-ruleFrom v = record { csd = getD v 0 0; number = getD v 1 0; object = getD v 2 0; sequence = getD v 3 0; sign = getD v 4 0; criteria = getD v 5 0; first = getD v 6 0; last = getD v 7 0 }
+ruleFrom v = record {
+  csd = getD v 0 0;
+  number = getD v 1 0;
+  object = getD v 2 0;
+  sequence = getD v 3 0;
+  sign = getD v 4 0;
+  criteria = getD v 5 0;
+  first = getD v 6 0;
+  last = getD v 7 0;
+}
 
 abbrev pub ruleNumbers : Rule → List ℕ
-ruleNumbers r = r .csd ∷ r .number ∷ r .object ∷ r .sequence ∷ r .sign ∷ r .criteria ∷ r .first ∷ r .last ∷ []
+ruleNumbers r =
+    r .csd ∷ r .number ∷ r .object ∷ r .sequence ∷ r .sign
+    ∷ r .criteria ∷ r .first ∷ r .last ∷ []
 
 unfoldable pub ruleAt : List ℕ → ℕ → Rule
 ruleAt b i = ruleFrom (numbers ruleWidths b (ruleStart i) 0)
@@ -68,10 +88,19 @@ abbrev pub rowWidths : List Width
 rowWidths = one ∷ one ∷ one ∷ one ∷ one ∷ one ∷ one ∷ four ∷ three ∷ three ∷ two ∷ two ∷ two ∷ three ∷ []
 
 abbrev pub rowFrom : List ℕ → Row
-rowFrom v = record { csd = getD v 0 0; number = getD v 1 0; object = getD v 2 0; sequence = getD v 3 0; values = drop 4 v }
+rowFrom v = record {
+  csd = getD v 0 0;
+  number = getD v 1 0;
+  object = getD v 2 0;
+  sequence = getD v 3 0;
+  values = drop 4 v;
+}
 
 abbrev pub rowNumbers : Row → List ℕ
-rowNumbers r = r .csd ∷ r .number ∷ r .object ∷ r .sequence ∷ getD (r .values) 0 0 ∷ getD (r .values) 1 0 ∷ getD (r .values) 2 0 ∷ getD (r .values) 3 0 ∷ getD (r .values) 4 0 ∷ getD (r .values) 5 0 ∷ getD (r .values) 6 0 ∷ getD (r .values) 7 0 ∷ getD (r .values) 8 0 ∷ getD (r .values) 9 0 ∷ []
+rowNumbers r =
+    r .csd ∷ r .number ∷ r .object ∷ r .sequence ∷ getD (r .values) 0 0
+    ∷ getD (r .values) 1 0 ∷ getD (r .values) 2 0 ∷ getD (r .values) 3 0 ∷ getD (r .values) 4 0 ∷ getD (r .values) 5 0
+    ∷ getD (r .values) 6 0 ∷ getD (r .values) 7 0 ∷ getD (r .values) 8 0 ∷ getD (r .values) 9 0 ∷ []
 
 unfoldable pub rowAt : List ℕ → ℕ → Row
 rowAt b i = rowFrom (numbers rowWidths b (rowStart i) 0)
@@ -91,10 +120,19 @@ abbrev pub periodWidths : List Width
 periodWidths = one ∷ one ∷ three ∷ two ∷ four ∷ four ∷ []
 
 abbrev pub periodFrom : List ℕ → Period
-periodFrom v = record { csd = getD v 0 0; kind = getD v 1 0; number = getD v 2 0; code = getD v 3 0; first = getD v 4 0; last = getD v 5 0 }
+periodFrom v = record {
+  csd = getD v 0 0;
+  kind = getD v 1 0;
+  number = getD v 2 0;
+  code = getD v 3 0;
+  first = getD v 4 0;
+  last = getD v 5 0;
+}
 
 abbrev pub periodNumbers : Period → List ℕ
-periodNumbers r = r .csd ∷ r .kind ∷ r .number ∷ r .code ∷ r .first ∷ r .last ∷ []
+periodNumbers r =
+    r .csd ∷ r .kind ∷ r .number ∷ r .code ∷ r .first
+    ∷ r .last ∷ []
 
 unfoldable pub periodAt : List ℕ → ℕ → Period
 periodAt b i = periodFrom (numbers periodWidths b (periodStart i) 0)

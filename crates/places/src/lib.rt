@@ -6,7 +6,7 @@ ghost use mathlib.Core.List.{[], _∷_};
 ghost use Rattle.tables.specs.Bytes.{byteAt, one, two, three, four, number, digits, bytesOf, puts};
 ghost use Rattle.places.specs.Layout.{typeAt, putType, zeroType, ruleAt, putRule, zeroRule, rowAt, putRow, zeroRow, periodAt, putPeriod, zeroPeriod};
 
-pub fn wide(x: u8) -> u32
+fn wide(x: u8) -> u32
     ensures { λ r. ⌜ r ≡ x ⌝ }
 {
     x as u32
@@ -187,8 +187,8 @@ impl RestrictionType {
 pub fn type_csd(b: &[u8], i: u16) -> u8
     ensures { λ r. ⌜ r ≡ typeAt (now (b .entry)) i .csd ⌝ }
 {
-    let at = (i as u32) * 12;
-    byte_at(b, at, 0)
+    let start = (i as u32) * 12;
+    byte_at(b, start, 0)
 }
 
 pub fn type_at(b: &[u8], i: u16) -> RestrictionType
@@ -275,8 +275,8 @@ impl Rule {
 pub fn rule_csd(b: &[u8], i: u16) -> u8
     ensures { λ r. ⌜ r ≡ ruleAt (now (b .entry)) i .csd ⌝ }
 {
-    let at = 1536 + (i as u32) * 15;
-    byte_at(b, at, 0)
+    let start = 1536 + (i as u32) * 15;
+    byte_at(b, start, 0)
 }
 
 pub fn rule_at(b: &[u8], i: u16) -> Rule
@@ -349,8 +349,8 @@ impl Row {
 pub fn row_csd(b: &[u8], i: u16) -> u8
     ensures { λ r. ⌜ r ≡ rowAt (now (b .entry)) i .csd ⌝ }
 {
-    let at = 9216 + (i as u32) * 26;
-    byte_at(b, at, 0)
+    let start = 9216 + (i as u32) * 26;
+    byte_at(b, start, 0)
 }
 
 pub fn row_at(b: &[u8], i: u16) -> Row
@@ -464,8 +464,8 @@ impl Period {
 pub fn period_csd(b: &[u8], i: u16) -> u8
     ensures { λ r. ⌜ r ≡ periodAt (now (b .entry)) i .csd ⌝ }
 {
-    let at = 35840 + (i as u32) * 15;
-    byte_at(b, at, 0)
+    let start = 35840 + (i as u32) * 15;
+    byte_at(b, start, 0)
 }
 
 pub fn period_at(b: &[u8], i: u16) -> Period

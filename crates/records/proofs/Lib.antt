@@ -2,3 +2,4 @@ pub mod Ten
 pub mod Filled
 pub mod Meets
 pub mod Nobody
+pub mod Holds

@@ -236,8 +236,8 @@ pub fn row_fits(t: Row) -> bool
     ensures { λ r. ⌜ r ≡ rowFits (rowOf t) ⌝ }
 {
     let v = t.values;
-    let key = and(key_fits(t.number, t.object), small(1, t.sequence, 99));
-    and(key, values_fit(v))
+    let rule = and(key_fits(t.number, t.object), small(1, t.sequence, 99));
+    and(rule, values_fit(v))
 }
 
 pub fn period_fits(t: Period) -> bool

@@ -6,12 +6,12 @@ use borrow.Author.Needs.{needs}
 use Rattle.tables.specs.Keyed.{Keyed}
 use Rattle.tables.proofs.Keying.{keyed-none, keyed-more, keyed-marks}
 use Rattle.places.specs.Layout.{periodAt}
-use Rattle.judge.specs.Stages.{codeKey, borneBy, codesBorne, tableSize}
+use Rattle.judge.specs.Stages.{periodKey, codeKeys, borneBy, codesBorne}
 use Rattle.judge.proofs.codes_borne.Statement.{statement}
 use Rattle.judge.proofs.codes_borne.Tie as tie
 
 abbrev Inv-loop : tie.InvT-loop
-Inv-loop b q t₀ i₀ t i = (i ≤ 1024) × Keyed tableSize (λ r. r .csd) (q .csd) (periodAt b) (λ p. codeKey (p .code) (p .kind)) (borneBy q) (λ r m. 1) t i
+Inv-loop b q t₀ i₀ t i = (i ≤ 1024) × Keyed codeKeys (λ r. r .csd) (q .csd) (periodAt b) (periodKey) (borneBy q) (λ r m. 1) t i
 
 abbrev μ-loop : tie.MeasureT-loop
 μ-loop b q t₀ i₀ t i = 1024 - i

@@ -6,12 +6,12 @@ use borrow.Author.Needs.{needs}
 use Rattle.tables.specs.Keyed.{marked, Keyed}
 use Rattle.tables.proofs.Keying.{keyed-none, keyed-more, keyed-marks}
 use Rattle.places.specs.Layout.{rowAt}
-use Rattle.judge.specs.Stages.{ruleKey, rowMatches, rowsMatched, tableSize}
+use Rattle.judge.specs.Stages.{rowKey, ruleKeys, rowMatches, rowsMatched}
 use Rattle.judge.proofs.rows_matched.Statement.{statement}
 use Rattle.judge.proofs.rows_matched.Tie as tie
 
 abbrev Inv-loop : tie.InvT-loop
-Inv-loop b q codes t₀ i₀ t i = (i ≤ 1024) × Keyed tableSize (λ r. r .csd) (q .csd) (rowAt b) (λ w. ruleKey (w .number) (w .sequence)) (rowMatches q (marked codes)) (λ r m. 1) t i
+Inv-loop b q codes t₀ i₀ t i = (i ≤ 1024) × Keyed ruleKeys (λ r. r .csd) (q .csd) (rowAt b) (rowKey) (rowMatches q (marked codes)) (λ r m. 1) t i
 
 abbrev μ-loop : tie.MeasureT-loop
 μ-loop b q codes t₀ i₀ t i = 1024 - i

@@ -6,12 +6,12 @@ use borrow.Author.Needs.{needs}
 use Rattle.tables.specs.Keyed.{marked, Keyed}
 use Rattle.tables.proofs.Keying.{keyed-none, keyed-more, keyed-marks}
 use Rattle.places.specs.Layout.{ruleAt}
-use Rattle.judge.specs.Stages.{signKey, ruleMatches, rulesMatched, tableSize}
+use Rattle.judge.specs.Stages.{signedKey, signKeys, ruleMatches, rulesMatched}
 use Rattle.judge.proofs.rules_matched.Statement.{statement}
 use Rattle.judge.proofs.rules_matched.Tie as tie
 
 abbrev Inv-loop : tie.InvT-loop
-Inv-loop b q rows t₀ i₀ t i = (i ≤ 512) × Keyed tableSize (λ r. r .csd) (q .csd) (ruleAt b) (λ r. signKey (r .number) (r .sequence) (r .sign)) (ruleMatches q (marked rows)) (λ r m. 1) t i
+Inv-loop b q rows t₀ i₀ t i = (i ≤ 512) × Keyed signKeys (λ r. r .csd) (q .csd) (ruleAt b) (signedKey) (ruleMatches q (marked rows)) (λ r m. 1) t i
 
 abbrev μ-loop : tie.MeasureT-loop
 μ-loop b q rows t₀ i₀ t i = 512 - i

@@ -1,5 +1,5 @@
 -- `line::byte_at` meets its contract.
-use Rattle.line.proofs.Walk.{past-end}
+use Rattle.line.proofs.Loops.{past-end}
 use borrow.Author.Needs.{needs}
 use Rattle.line.proofs.byte_at.Statement.{statement}
 use Rattle.line.proofs.byte_at.Tie as tie

@@ -3,7 +3,7 @@ use Prim.Native.Nat.{_-_}
 use lib.ListN.{length}
 use native.Mathlib.Omega.{arith}
 use mathlib.Core.Logic.{⊎-elim}
-use Rattle.line.proofs.Walk.{CountTo, count-comma, count-other, count-end}
+use Rattle.line.proofs.Loops.{CountTo, count-comma, count-other, count-end}
 use Rattle.line.proofs.count.Statement.{statement}
 use Rattle.line.proofs.count.Tie as tie
 

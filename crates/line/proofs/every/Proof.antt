@@ -5,7 +5,7 @@ use lib.ListN.{length}
 use native.Mathlib.Omega.{arith}
 use borrow.Author.Needs.{needs}
 use Rattle.line.specs.Values.{belongs}
-use Rattle.line.proofs.Walk.{EveryTo, every-next, every-end}
+use Rattle.line.proofs.Loops.{EveryTo, every-next, every-end}
 use Rattle.line.proofs.every.Statement.{statement}
 use Rattle.line.proofs.every.Tie as tie
 

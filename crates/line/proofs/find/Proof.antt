@@ -1,5 +1,5 @@
 -- `line::find` meets its contract.
-use Rattle.line.proofs.Walk.{FoundTo, found-next, found-here, found-end}
+use Rattle.line.proofs.Loops.{FoundTo, found-next, found-here, found-end}
 use Prim.Native.Nat.{_-_}
 use mathlib.Core.Path.{refl}
 use lib.ListN.{length}

@@ -4,7 +4,7 @@ use mathlib.Core.Path.{refl}
 use lib.ListN.{length}
 use native.Mathlib.Omega.{arith}
 use borrow.Author.Needs.{needs}
-use Rattle.line.proofs.Walk.{SameTo, same-next, same-end, same-length}
+use Rattle.line.proofs.Loops.{SameTo, same-next, same-end, same-length}
 use Rattle.line.proofs.same.Statement.{statement}
 use Rattle.line.proofs.same.Tie as tie
 

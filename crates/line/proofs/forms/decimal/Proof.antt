@@ -4,7 +4,7 @@ use mathlib.Core.Path.{refl}
 use lib.ListN.{length}
 use native.Mathlib.Omega.{arith}
 use borrow.Author.Needs.{needs}
-use Rattle.line.proofs.Walk.{DecimalTo, decimal-next, decimal-large, decimal-end}
+use Rattle.line.proofs.Loops.{DecimalTo, decimal-next, decimal-large, decimal-end}
 use Rattle.line.proofs.forms.decimal.Statement.{statement}
 use Rattle.line.proofs.forms.decimal.Tie as tie
 

@@ -1,5 +1,5 @@
 -- `line::forms::word` meets its contract.
-use Rattle.line.proofs.Walk.{WordTo, word-room, word-next, word-end}
+use Rattle.line.proofs.Loops.{WordTo, word-room, word-next, word-end}
 use lib.ListN.{length}
 use Prim.Native.Nat.{_-_}
 use native.Mathlib.Omega.{arith}

@@ -1,6 +1,6 @@
 -- `line::reading::cut` meets its contract.
 use borrow.Author.Needs.{needs}
-use Rattle.line.proofs.Walk.{cuts}
+use Rattle.line.proofs.Loops.{cuts}
 use Rattle.line.proofs.reading.cut.Statement.{statement}
 use Rattle.line.proofs.reading.cut.Tie as tie
 

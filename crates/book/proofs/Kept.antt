@@ -1,5 +1,5 @@
 -- What a store at one place leaves of the lone lists. Written by tools/edits.py.
-use Prim.Native.Nat.{ℕ, _+_, _≤_, _<_}
+use Prim.Native.Nat.{ℕ, _≤_, _<_}
 use mathlib.Core.Path.{_≡_, refl, ap, sym, _∙_}
 use mathlib.Core.Bool.{Bool, true}
 use mathlib.Core.List.{List, _∷_}
@@ -8,28 +8,28 @@ use lib.Dec.{lit<}
 use lib.ListN.{length}
 use Rattle.tables.specs.Count.{count, without, change, Same}
 use Rattle.tables.specs.Bytes.{Hold}
-use Rattle.tables.proofs.Lone.{lone-same, lone-others, lone-removed, lone-changed, lone-still, lone-added}
+use Rattle.tables.proofs.Lone.{lone-same, lone-removed, lone-changed, lone-still, lone-added}
 use Rattle.meaning.specs.Records as M
 use Rattle.places.specs.declared.RestrictionType.{RestrictionType}
 use Rattle.places.specs.Layout.{typeAt, putType, zeroType, typeWidths, typeNumbers}
 use Rattle.places.proofs.Stores.{type-back, type-other, rule-by-type, row-by-type, period-by-type}
 use Rattle.records.specs.Said.{typeOf}
 use Rattle.book.specs.Lone.{typesOf}
 use Rattle.places.specs.declared.Rule.{Rule}
 use Rattle.places.specs.Layout.{ruleAt, putRule, zeroRule, ruleWidths, ruleNumbers}
 use Rattle.places.proofs.Stores.{rule-back, rule-other, type-by-rule, row-by-rule, period-by-rule}
 use Rattle.records.specs.Said.{ruleOf}
 use Rattle.book.specs.Lone.{rulesOf}
 use Rattle.places.specs.declared.Row.{Row}
 use Rattle.places.specs.Layout.{rowAt, putRow, zeroRow, rowWidths, rowNumbers}
 use Rattle.places.proofs.Stores.{row-back, row-other, type-by-row, rule-by-row, period-by-row}
 use Rattle.records.specs.Said.{rowOf}
 use Rattle.book.specs.Lone.{rowsOf}
 use Rattle.places.specs.declared.Period.{Period}
 use Rattle.places.specs.Layout.{periodAt, putPeriod, zeroPeriod, periodWidths, periodNumbers}
 use Rattle.places.proofs.Stores.{period-back, period-other, type-by-period, rule-by-period, row-by-period}
 use Rattle.records.specs.Said.{periodOf}
 use Rattle.book.specs.Lone.{periodsOf}
 
 -- ---- types
 

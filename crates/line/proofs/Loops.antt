@@ -1,4 +1,4 @@
--- How a loop over indices meets the lists of the meaning. Each loop has a record, its invariant: what was found before index i, with what is left
+-- What a loop over indices has to do with the lists of the meaning. Each loop has a record, its invariant: what was found before index i, with what is left
 -- from i on, gives the whole. Its laws take just what the code knows at that place, so that `search LAW` closes the need.
 use mathlib.Core.Path.{_≡_, refl, ap, sym, _∙_}
 use mathlib.Core.Bool.{Bool, true, false, cond, _&&_, and-assoc, and-true}
@@ -29,7 +29,8 @@ past-end l i h = sym (List·getD-eq-default l 0 h)
 pub record EveryTo (p : ℕ → Bool) (l : List ℕ) (t : Bool) (i : ℕ) : Type 0 where
   pub left : (t && every p (drop i l)) ≡ every p l
 
-pub every-next : {p : ℕ → Bool} {l : List ℕ} {t t′ q : Bool} {i : ℕ} → EveryTo p l t i → i < length l → q ≡ p (getD l i 0) → t′ ≡ (t && q) → EveryTo p l t′ (i + 1)
+pub every-next : {p : ℕ → Bool} {l : List ℕ} {t t′ q : Bool} {i : ℕ} → EveryTo p l t i → i < length l → q ≡ p (getD l i 0) → t′ ≡ (t && q)
+    → EveryTo p l t′ (i + 1)
 unfolding every
 every-next {p} {l} {t} {i = i} r h e f =
     record { left = rw (f, e) (and-assoc t (p (getD l i 0)) (every p (drop (i + 1) l)) ∙ rw (next l i h) at (r .left)) }
@@ -81,7 +82,8 @@ first-field (c ∷ cs) = go (isComma c) (first-field cs)
     n : ℕ
     n = place 44 cs
 
-    go : (b : Bool) → fields cs ≡ take n cs ∷ more (drop n cs) → before b c (fields cs) ≡ take (cond b 0 (suc n)) (c ∷ cs) ∷ more (drop (cond b 0 (suc n)) (c ∷ cs))
+    go : (b : Bool) → fields cs ≡ take n cs ∷ more (drop n cs)
+        → before b c (fields cs) ≡ take (cond b 0 (suc n)) (c ∷ cs) ∷ more (drop (cond b 0 (suc n)) (c ∷ cs))
     go true e = refl
     go false e = rw e
 
