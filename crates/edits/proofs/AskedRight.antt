@@ -1,5 +1,5 @@
 -- For the numbers of a line that is read, what is asked of the book is the meaning's command.
-use Prim.Native.Nat.{ℕ, _%_, _≤_, _<_}
+use Prim.Native.Nat.{ℕ, _%_, _<_}
 use mathlib.Core.Path.{_≡_, refl}
 use mathlib.Core.Bool.{true}
 use mathlib.Core.List.{List}
@@ -11,7 +11,7 @@ use Rattle.meaning.specs.Fields.{within}
 use Rattle.meaning.specs.Forms.{holds, day, formsOf, Letter, letterT, letterE, letterR, letterO, letterD, letterM, letterN, letterA, letterZ, letterQ}
 use Rattle.meaning.specs.Records.{_!_, commandOf}
 use Rattle.records.specs.Said.{typeOf, ruleOf, rowOf, periodOf}
-use Rattle.edits.specs.Asked.{byte, typeFrom, ruleFrom, rowFrom, periodFrom, commandBy}
+use Rattle.edits.specs.Asked.{typeFrom, ruleFrom, rowFrom, periodFrom, commandBy}
 
 byte-same : (m n : ℕ) → within 1 m n ≡ true → m < 256 → n % 256 ≡ n
 byte-same m n e l = omega (arith, leb-true n m (search ands))

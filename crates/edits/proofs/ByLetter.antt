@@ -1,16 +1,16 @@
 -- What the arms of the code's matches on the letter return.
 use Prim.Native.Nat.{ℕ, _≤_}
-use mathlib.Core.Path.{_≡_, refl, ap, sym, _∙_}
+use mathlib.Core.Path.{_≡_, ap, _∙_}
 use mathlib.Core.List.{List, [], _∷_}
 use mathlib.Core.Option.{Option, some, none}
 use native.Mathlib.Omega.{arith}
-use lib.ListN.{getD, List·getD-eq-default}
+use lib.ListN.{List·getD-eq-default}
 use Rattle.tables.proofs.Counts.{cases-eq}
 use Rattle.tables.proofs.Match.{NoneBelow, past}
-use Rattle.meaning.specs.Forms.{Letter, letterAt, letterT, letterE, letterR, letterO, letterD, letterM, letterN, letterA, letterZ, letterQ}
+use Rattle.meaning.specs.Forms.{Letter, letterT, letterE, letterR, letterO, letterD, letterM, letterN, letterA, letterZ, letterQ}
 use Rattle.meaning.specs.Records as M
 use Rattle.meaning.specs.Records.{_!_, commandOf}
-use Rattle.meaning.specs.Refusals.{conditions, refusal}
+use Rattle.meaning.specs.Refusals.{refusal}
 use Rattle.places.specs.declared.RestrictionType.{RestrictionType}
 use Rattle.places.specs.declared.Rule.{Rule}
 use Rattle.places.specs.declared.Row.{Row}
@@ -18,7 +18,7 @@ use Rattle.places.specs.declared.Period.{Period}
 use Rattle.records.specs.Said.{typeOf, ruleOf, rowOf, periodOf}
 use Rattle.book.specs.Lone.{loneBook}
 use Rattle.edits.specs.Edit.{freeType, freeRule, freeRow, freePeriod, storeType, storeRule, storeRow, storePeriod, endedType, endedPeriod, deletedRule, deletedRow, reorderedRule, editIn}
-use Rattle.edits.specs.Asked.{byte, typeFrom, ruleFrom, rowFrom, periodFrom, commandBy, orQuestion, commandIn}
+use Rattle.edits.specs.Asked.{byte, typeFrom, ruleFrom, rowFrom, periodFrom, commandIn}
 
 -- The arms know the letter's place; the last arm that it is none of the others.
 module _ (b v : List ℕ) (letter r : ℕ) where

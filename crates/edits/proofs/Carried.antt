@@ -1,28 +1,25 @@
 -- What a reorder leaves of the lone books: the rule and all its rows have the new sequence.
-use Prim.Native.Nat.{ℕ, zero, suc, _+_, _*_, _≤_, _<_}
+use Prim.Native.Nat.{ℕ, zero, suc, _+_, _≤_, _<_}
 use mathlib.Core.Path.{_≡_, refl, ap, sym, _∙_}
-use mathlib.Core.Bool.{Bool, true, false, _&&_, cond}
+use mathlib.Core.Bool.{true, false, cond}
 use mathlib.Core.List.{List, [], _∷_}
 use native.Mathlib.Numerals.{add-one}
 use native.Mathlib.Omega.{arith}
 use lib.Dec.{eqb}
 use lib.ListN.{length}
 use borrow.Author.Tests.{eq-eqb, eqb-true, ne-eqb}
-use Rattle.tables.specs.Count.{count, alter, change, Same}
-use Rattle.tables.specs.Bytes.{Hold, number}
+use Rattle.tables.specs.Count.{count, alter, change}
+use Rattle.tables.specs.Bytes.{Hold}
 use Rattle.tables.proofs.Counts.{cases, cases-eq}
 use Rattle.tables.proofs.Lone.{lone-altered}
 use Rattle.tables.proofs.Lists.{same-equal}
 use Rattle.meaning.specs.Records as M
 use Rattle.meaning.specs.Keys.{isRule, ofRule}
 use Rattle.meaning.specs.Edits as E
-use Rattle.places.specs.Layout.{ruleAt, putRule, ruleWidths, ruleNumbers, rowAt, putRow, rowWidths, rowNumbers}
+use Rattle.places.specs.Layout.{ruleAt, putRule, ruleWidths, ruleNumbers, rowAt, rowWidths, rowNumbers}
 use Rattle.places.proofs.Stores.{length-rule, length-row, row-back, row-other, row-by-rule}
-use Rattle.places.specs.declared.Rule.{Rule}
-use Rattle.places.specs.declared.Row.{Row}
 use Rattle.records.specs.Said.{ruleOf, rowOf}
 use Rattle.book.specs.Lone.{typesOf, rulesOf, rowsOf, periodsOf, loneBook}
-use Rattle.meaning.specs.SameBook.{SameBook}
 use Rattle.records.specs.Free.{ruleZero, rowZero}
 use Rattle.book.specs.Sound.{allPlaced}
 use Rattle.edits.specs.Leaves.{Leaves}

@@ -1,13 +1,13 @@
 -- What the stores and the edits show, from what the calls ensure.
 use Prim.Native.Nat.{ℕ, _≤_, _<_}
-use mathlib.Core.Path.{_≡_, refl, ap, sym, _∙_}
-use mathlib.Core.Bool.{Bool, true, false, cond}
+use mathlib.Core.Path.{_≡_, ap, sym, _∙_}
+use mathlib.Core.Bool.{Bool, true, false}
 use mathlib.Core.List.{List, [], _∷_}
 use lib.Dec.{eqb}
 use borrow.Author.Tests.{lt-ltb, le-ltb, eq-eqb, ne-eqb}
 use Rattle.meaning.specs.Keys.{ofRule}
 use Rattle.meaning.specs.Records.{_!_}
-use Rattle.places.specs.Layout.{typeAt, putType, ruleAt, putRule, zeroRule, rowAt, putRow, zeroRow, periodAt, putPeriod}
+use Rattle.places.specs.Layout.{putType, ruleAt, putRule, rowAt, putRow, zeroRow, putPeriod}
 use Rattle.places.specs.declared.RestrictionType.{RestrictionType}
 use Rattle.places.specs.declared.Rule.{Rule}
 use Rattle.places.specs.declared.Row.{Row}
@@ -18,10 +18,10 @@ use Rattle.records.specs.declared.TypeAsk.the-variants as Types
 use Rattle.records.specs.declared.RuleAsk.the-variants as Rules
 use Rattle.records.specs.declared.RowAsk.the-variants as Rows
 use Rattle.records.specs.declared.PeriodAsk.the-variants as Periods
-use Rattle.book.specs.Places.{typePlace, rulePlace, rowPlace, periodPlace}
+use Rattle.book.specs.Places.{rulePlace}
 use Rattle.edits.specs.Asked.{byte, ruleFrom, rowFrom}
-use Rattle.edits.specs.Moves.{ruleWith, rowWith, carried, carryRow, carryRows}
-use Rattle.edits.specs.Edit.{noRow, freeType, freeRule, freeRow, freePeriod, typeEnded, periodEnded, storeType, storeRule, storeRow, storePeriod, endedType, endedPeriod, deletedRule, deletedRow, reorderedRule}
+use Rattle.edits.specs.Moves.{ruleWith, rowWith, carryRow, carryRows}
+use Rattle.edits.specs.Edit.{storeType, storeRule, storeRow, storePeriod, reorderedRule}
 
 module _ (b b′ : List ℕ) (i : ℕ) where
   pub type-stored : (r : RestrictionType) → i < 128 → b′ ≡ putType b i r → b′ ≡ storeType b i r

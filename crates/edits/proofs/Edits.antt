@@ -1,12 +1,12 @@
 -- What each edit that is not refused leaves of the lone books, once its place is found.
-use Prim.Native.Nat.{ℕ, _+_, _/_, _≤_, _<_}
-use mathlib.Core.Path.{_≡_, refl, ap, sym, _∙_}
-use mathlib.Core.Bool.{Bool, true, _&&_}
-use mathlib.Core.List.{List, _∷_}
+use Prim.Native.Nat.{ℕ, _≤_, _<_}
+use mathlib.Core.Path.{_≡_, refl, sym, _∙_}
+use mathlib.Core.Bool.{true}
+use mathlib.Core.List.{List}
 use native.Mathlib.Omega.{arith}
 use lib.Dec.{lit<}
 use lib.ListN.{length}
-use Rattle.tables.specs.Count.{count, Same}
+use Rattle.tables.specs.Count.{count}
 use Rattle.tables.specs.Bytes.{Hold}
 use Rattle.tables.proofs.Lists.{same-equal}
 use Rattle.meaning.specs.Records as M
@@ -20,7 +20,6 @@ use Rattle.places.specs.declared.Row.{Row}
 use Rattle.places.specs.declared.Period.{Period}
 use Rattle.records.specs.Said.{typeOf, ruleOf, rowOf, periodOf}
 use Rattle.book.specs.Lone.{typesOf, rulesOf, rowsOf, periodsOf, loneBook}
-use Rattle.meaning.specs.SameBook.{SameBook}
 use Rattle.records.specs.Free.{typeZero, ruleZero, rowZero, periodZero}
 use Rattle.edits.specs.Leaves.{Leaves}
 use Rattle.edits.proofs.Placed.{of-one, type-placed, rule-placed, row-placed, period-placed}

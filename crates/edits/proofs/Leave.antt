@@ -1,25 +1,23 @@
 -- What the nine edits leave: one theorem, over the command.
 use Prim.Native.Nat.{ℕ, _≤_, _<_}
-use mathlib.Core.Path.{_≡_, refl, ap, sym, _∙_}
-use mathlib.Core.Bool.{Bool, true, false, not, _&&_, cond}
-use mathlib.Core.List.{List, [], _∷_}
+use mathlib.Core.Path.{_≡_, refl}
+use mathlib.Core.Bool.{true}
+use mathlib.Core.List.{List}
 use native.Mathlib.Omega.{arith}
-use lib.Dec.{eqb, leb, ltb}
 use lib.ListN.{length}
-use borrow.Author.Tests.{eqb-true, lt-ltb, leb-false, not-false}
-use Rattle.tables.specs.Count.{count, has, every, findBelow}
-use Rattle.tables.specs.Bytes.{Hold}
+use borrow.Author.Tests.{lt-ltb, leb-false, not-false}
+use Rattle.tables.specs.Count.{has, every}
 use Rattle.tables.proofs.Lone.{every-at}
 use Rattle.tables.proofs.Lists.{has-true}
 use Rattle.meaning.specs.Records as M
-use Rattle.meaning.specs.Keys.{isType, isRule, ofRule, isRow, isPeriod, clash}
-use Rattle.meaning.specs.Refusals.{typeOutside, periodOutside, conditions, refusal}
+use Rattle.meaning.specs.Keys.{isType, isRule, isRow, isPeriod}
+use Rattle.meaning.specs.Refusals.{conditions, refusal}
 use Rattle.meaning.specs.Edits.{edited}
 use Rattle.meaning.specs.Forms.{holds, day, sequenceForm}
 use Rattle.meaning.specs.Sound.{typeFits, ruleFits, rowFits, periodFits, fits}
 use Rattle.meaning.proofs.First.{none-hold}
 use Rattle.meaning.proofs.Good.{Good, good-of-sound, period-once}
-use Rattle.places.specs.Layout.{typeAt, ruleAt, rowAt, periodAt, typeWidths, typeNumbers, ruleWidths, ruleNumbers, rowWidths, rowNumbers, periodWidths, periodNumbers}
+use Rattle.places.specs.Layout.{typeAt, ruleAt, rowAt, periodAt}
 use Rattle.records.specs.Said.{typeOf, ruleOf, rowOf, periodOf}
 use Rattle.records.specs.Asks.{typeMeets, ruleMeets, rowMeets, periodMeets}
 use Rattle.records.specs.declared.TypeAsk.the-variants as Types
@@ -32,8 +30,8 @@ use Rattle.edits.specs.Leaves.{Leaves}
 use Rattle.records.proofs.Holds.{type-hold, rule-hold, row-hold, period-hold}
 use Rattle.book.proofs.Facts.{GoodBook}
 use Rattle.book.proofs.Found.{found-type, found-rule, found-row, found-period, free-type, free-rule, free-row, free-period}
-use Rattle.edits.specs.Moves.{ruleWith, rowWith, carryRows, reorderIn}
-use Rattle.edits.specs.Edit.{typeIn, ruleIn, rowIn, periodIn, typeEnded, periodEnded, noRow, freeType, freeRule, freeRow, freePeriod, storeType, storeRule, storeRow, storePeriod, endedType, endedPeriod, deletedRule, deletedRow, reorderedRule, editIn}
+use Rattle.edits.specs.Moves.{reorderIn}
+use Rattle.edits.specs.Edit.{typeIn, ruleIn, rowIn, periodIn, noRow, freeType, freeRule, freeRow, freePeriod, storeType, storeRule, storeRow, storePeriod, endedType, endedPeriod, deletedRule, deletedRow, reorderedRule, editIn}
 use Rattle.edits.proofs.Widths.{row-ten, type-ended-holds, period-ended-holds, rule-with-holds, row-with-holds}
 use Rattle.edits.proofs.Edits.{rule-deleted, row-deleted, type-ended, period-ended, type-added, rule-added, row-added, period-added}
 use Rattle.edits.proofs.Carried.{ten-values, reordered}

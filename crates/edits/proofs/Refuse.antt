@@ -1,13 +1,13 @@
 -- What the refusals of each letter show, from what the calls ensure.
 use Prim.Native.Nat.{ℕ}
-use mathlib.Core.Path.{_≡_, refl}
+use mathlib.Core.Path.{_≡_}
 use mathlib.Core.Bool.{Bool, not, cond}
 use mathlib.Core.List.{List}
 use lib.Dec.{leb, ltb}
 use lib.ListN.{length}
 use Rattle.tables.specs.Count.{has}
 use Rattle.meaning.specs.Records as M
-use Rattle.meaning.specs.Refusals.{conditions, refusal}
+use Rattle.meaning.specs.Refusals.{refusal}
 use Rattle.places.specs.declared.RestrictionType.{RestrictionType}
 use Rattle.places.specs.declared.Rule.{Rule}
 use Rattle.places.specs.declared.Row.{Row}

@@ -1,26 +1,20 @@
 -- A sound book stays sound under every edit that is not refused.
-use Prim.Native.Nat.{ℕ, _+_, _-_, _≤_, _<_}
-use mathlib.Core.Path.{_≡_, refl, ap, sym, _∙_}
-use mathlib.Core.Bool.{Bool, true, _&&_, _||_}
+use Prim.Native.Nat.{ℕ, _+_, _≤_}
+use mathlib.Core.Path.{_≡_, ap, _∙_}
+use mathlib.Core.Bool.{true}
 use mathlib.Core.List.{List}
 use native.Mathlib.Omega.{arith}
-use lib.Dec.{eqb}
 use lib.ListN.{length}
-use borrow.Author.Tests.{eqb-true, eq-eqb, leb-true}
-use Rattle.tables.specs.Count.{allBelow}
-use Rattle.tables.proofs.Counts.{cases, cases-eq, both, ands, all-at, all-put}
-use Rattle.meaning.specs.Fields.{within}
+use borrow.Author.Tests.{eqb-true}
+use Rattle.tables.proofs.Counts.{cases-eq, ands, all-put}
 use Rattle.meaning.specs.Records as M
 use Rattle.meaning.specs.Refusals.{refusal}
 use Rattle.meaning.specs.Edits.{edited}
 use Rattle.meaning.specs.Sound.{fits, soundLone}
-use Rattle.meaning.proofs.Good.{Good, good-of-sound, sound-of-good, sound-same}
+use Rattle.meaning.proofs.Good.{good-of-sound, sound-of-good, sound-same}
 use Rattle.meaning.proofs.Kept.{good-edited}
-use Rattle.places.specs.Layout.{typeAt, ruleAt, rowAt, periodAt}
-use Rattle.records.specs.Free.{typeZero, ruleZero, rowZero, periodZero}
-use Rattle.records.proofs.Nobody.{type-nobody, rule-nobody, row-nobody, period-nobody}
 use Rattle.book.specs.Lone.{loneBook}
-use Rattle.book.specs.Sound.{placed, allPlaced, sound}
+use Rattle.book.specs.Sound.{sound}
 use Rattle.book.proofs.Facts.{facts-of-sound}
 use Rattle.edits.specs.Leaves.{Leaves}
 use Rattle.edits.specs.Edit.{editIn}

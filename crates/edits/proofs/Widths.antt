@@ -1,5 +1,5 @@
 -- A record that an edit changes where it stands keeps its bytes' widths; a row in range has ten values.
-use Prim.Native.Nat.{ℕ, _≤_, _<_}
+use Prim.Native.Nat.{ℕ, _≤_}
 use mathlib.Core.Path.{_≡_}
 use mathlib.Core.Bool.{true}
 use native.Mathlib.Omega.{arith}

@@ -5,7 +5,7 @@ use mathlib.Core.Bool.{cond}
 use mathlib.Core.List.{List}
 use lib.Dec.{ltb}
 use Rattle.meaning.specs.Records as M
-use Rattle.places.specs.Layout.{typeAt, putType, ruleAt, putRule, zeroRule, rowAt, putRow, zeroRow, periodAt, putPeriod}
+use Rattle.places.specs.Layout.{typeAt, putType, ruleAt, putRule, zeroRule, putRow, zeroRow, periodAt, putPeriod}
 use Rattle.places.specs.declared.RestrictionType.{RestrictionType}
 use Rattle.places.specs.declared.Rule.{Rule}
 use Rattle.places.specs.declared.Row.{Row}

@@ -1,35 +1,15 @@
 -- What a caller of `read_line` learns, from its contract alone. `asked` and `was-refused` are the two cases, by the refusal.
-use Prim.Native.Nat.{ℕ, zero, suc, _≤_, _<_}
+use Prim.Native.Nat.{ℕ, _≤_, _<_}
 use mathlib.Core.Path.{_≡_, refl, ap, sym, _∙_}
-use mathlib.Core.Bool.{Bool, true, false, cond, false≢true}
+use mathlib.Core.Bool.{Bool, true, false, cond}
 use mathlib.Core.List.{List, [], _∷_}
 use mathlib.Core.Option.{Option, some, none}
 use native.Mathlib.Omega.{arith}
-use lib.Dec.{eqb, leb}
+use lib.Dec.{eqb}
 use lib.ListN.{length, getD}
-use borrow.Author.Tests.{leb-true}
-use Rattle.tables.proofs.Counts.{both, cases-eq}
+use Rattle.tables.proofs.Counts.{cases-eq}
 use Rattle.meaning.specs.Fields.{wellMade, fields}
-use Rattle.meaning.specs.Forms.{
-  Form,
-  csdForm,
-  day,
-  holds,
-  holdsAll,
-  formsOf,
-  letterOf,
-  Letter,
-  letterT,
-  letterE,
-  letterR,
-  letterO,
-  letterD,
-  letterM,
-  letterN,
-  letterA,
-  letterZ,
-  letterQ,
-}
+use Rattle.meaning.specs.Forms.{Form, day, holds, formsOf, letterOf, Letter, letterT, letterE, letterR, letterO, letterD, letterM, letterN, letterA, letterZ, letterQ}
 use Rattle.meaning.specs.Records.{commandOf}
 use Rattle.meaning.specs.Reading.{Reading, refused, asks, wrong, readAll, byNumbers, byLetter, byFields, reading}
 use Rattle.meaning.proofs.Ranges.{holds-at, reading-ranged}

@@ -1,10 +1,9 @@
 -- Demand 3, proved.
 use Prim.Native.Nat.{ℕ, _≤_}
-use mathlib.Core.Path.{_≡_, refl, ap, ap₂, sym, _∙_}
-use mathlib.Core.Bool.{Bool, true, false, cond}
-use mathlib.Core.List.{List, [], _∷_}
+use mathlib.Core.Path.{_≡_, refl, ap, sym, _∙_}
+use mathlib.Core.Bool.{true, false}
+use mathlib.Core.List.{List, _∷_}
 use Rattle.tables.specs.Count.{count, keep}
-use Rattle.tables.specs.Bytes.{zeros}
 use Rattle.tables.proofs.Counts.{cases}
 use Rattle.meaning.specs.Records as M
 use Rattle.meaning.specs.SameBook.{SameBook}
@@ -14,9 +13,8 @@ use Rattle.meaning.proofs.Order.{step-same}
 use Rattle.meaning.proofs.Names.{names-depository}
 use Rattle.book.specs.Lone.{loneBook}
 use Rattle.book.specs.Sound.{sound}
-use Rattle.book.specs.Emptied.{Emptied}
 use Rattle.book.proofs.NoRecords.{emptied-sound, emptied-lone}
-use Rattle.precheck.specs.Promise.{answerIn, loneAfter, Submitted}
+use Rattle.precheck.specs.Promise.{answerIn, loneAfter}
 use Rattle.precheck.specs.Alone.{Run, done, sent, answersTo, OneAlone, TwoRuns}
 
 same-trans : (b c d : M.Book) → SameBook b c → SameBook c d → SameBook b d

@@ -1,24 +1,24 @@
 -- What each return of `take` and `submit` shows.
 use Prim.Native.Nat.{ℕ, zero, suc, _%_, _≤_, _<_}
 use mathlib.Core.Path.{_≡_, refl, ap, sym, _∙_}
-use mathlib.Core.Bool.{Bool, true, false, not, cond, false≢true}
+use mathlib.Core.Bool.{Bool, true, false, not, false≢true}
 use mathlib.Core.List.{List, [], _∷_, map}
 use native.Mathlib.Omega.{arith}
-use lib.Dec.{eqb, leb}
+use lib.Dec.{eqb}
 use lib.ListN.{length, getD}
-use borrow.Author.Tests.{eqb-true, eq-eqb, ne-eqb, leb-true, not-true, not-false}
+use borrow.Author.Tests.{eq-eqb, ne-eqb, leb-true, not-true, not-false}
 use Rattle.tables.proofs.Counts.{cases, cases-eq, ands}
 use Rattle.meaning.specs.Fields.{within}
 use Rattle.meaning.specs.Forms.{Letter, letterT, letterE, letterR, letterO, letterD, letterM, letterN, letterA, letterZ, letterQ, letterAt, formsOf, holds, day}
 use Rattle.meaning.specs.Records as M
 use Rattle.meaning.specs.Records.{_!_, commandOf}
-use Rattle.meaning.specs.Reading.{Reading, refused, asks, reading}
+use Rattle.meaning.specs.Reading.{refused, asks, reading}
 use Rattle.meaning.specs.Refusals.{refusal}
 use Rattle.meaning.specs.Edits.{edited}
 use Rattle.meaning.specs.Judging.{judged}
-use Rattle.meaning.specs.Lone.{Step, reply, unless, taken, afterReading, step, names, depository}
+use Rattle.meaning.specs.Lone.{reply, unless, taken, afterReading, step, names, depository}
 use Rattle.meaning.specs.SameBook.{SameBook}
-use Rattle.meaning.specs.Sound.{soundLone, fits}
+use Rattle.meaning.specs.Sound.{fits}
 use Rattle.meaning.specs.declared.Answer.{Answer}
 use Rattle.meaning.specs.declared.Answer.the-variants.{Taken, Refused, Judged}
 use Rattle.meaning.proofs.Ranges.{reading-fits}
@@ -27,7 +27,6 @@ use Rattle.book.specs.Lone.{loneBook}
 use Rattle.book.specs.Sound.{sound}
 use Rattle.edits.specs.Asked.{byte, commandBy, orQuestion, commandIn}
 use Rattle.edits.specs.Edit.{editIn}
-use Rattle.edits.specs.Leaves.{Leaves}
 use Rattle.edits.proofs.AskedRight.{asked-right}
 use Rattle.edits.proofs.Stay.{sound-lone, edit-left, edit-sound}
 use Rattle.judge.specs.Stages.{asked, judgedBy}
@@ -35,7 +34,7 @@ use Rattle.judge.specs.declared.Question.{Question}
 use Rattle.judge.proofs.Right.{judged-right}
 use Rattle.line.specs.declared.reading.Line.{Line}
 use Rattle.line.specs.Line.{lineOf}
-use mathlib.Core.Option.{Option, some, none}
+use mathlib.Core.Option.{some, none}
 use Rattle.line.specs.Table.{letterList, letter, placeOf}
 use Rattle.line.proofs.Readings.{place-letter}
 use Rattle.line.proofs.Padding.{padded-at}

@@ -1,3 +1,4 @@
+-- `edits::carry_rows` meets its contract. Assumes nothing.
 use Prim.Native.Nat.{_≤_, _-_}
 use mathlib.Core.Path.{_≡_, ap, _∙_}
 use lib.ListN.{length}
@@ -7,9 +8,6 @@ use Rattle.edits.specs.Moves.{carryRows}
 use Rattle.edits.proofs.Carried.{carried-length, carry-none, carry-next}
 use Rattle.edits.proofs.carry_rows.Statement.{statement}
 use Rattle.edits.proofs.carry_rows.Tie as tie
-use Rattle.edits.proofs.carry_rows.Reads as reads
-use Rattle.edits.proofs.carry_rows.Lts as lts
-use Rattle.edits.proofs.carry_row.Reads as carry-row-reads
 
 abbrev Inv-loop : tie.InvT-loop
 Inv-loop b₀ key new i₀ b i =
@@ -18,31 +16,24 @@ Inv-loop b₀ key new i₀ b i =
 abbrev μ-loop : tie.MeasureT-loop
 μ-loop b₀ key new i₀ b i = 1024 - i
 
--- src/lib.rt:313:5
 loop-holds : tie.Need-loop-holds Inv-loop μ-loop
 loop-holds c = (search needs, search carry-none)
 
--- src/lib.rt:314:9
 carry-row-requires : tie.Need-carry-row-requires Inv-loop μ-loop
 carry-row-requires c κs = search needs
 
--- src/lib.rt:313:9
 add-i : tie.Need-add-i Inv-loop μ-loop
 add-i c = omega arith
 
--- src/lib.rt:313:5
 loop-less : tie.Need-loop-less Inv-loop μ-loop
 loop-less c = omega arith
 
--- src/lib.rt:313:5
 loop-again : tie.Need-loop-again Inv-loop μ-loop
 loop-again c = (omega arith, search carry-next)
 
--- src/lib.rt:310:1
 same-length : tie.Need-same-length Inv-loop μ-loop
 same-length c = ap length (c .before .loop .inv .1) ∙ carried-length _ _ _ _ _ _ _
 
--- src/lib.rt:310:1
 returns : tie.Need-returns Inv-loop μ-loop
 returns c = let e : c .before .loop .i ≡ 1024 = omega arith in rw e at (c .before .loop .inv .1)
 

@@ -1,201 +1,141 @@
+-- `edits::edit` meets its contract. Assumes nothing.
 use Rattle.edits.proofs.ByLetter.{edit-T, edit-E, edit-R, edit-O, edit-D, edit-M, edit-N, edit-A, edit-Z, edit-Q}
 use borrow.Author.Needs.{needs}
 use Rattle.edits.proofs.edit.Statement.{statement}
 use Rattle.edits.proofs.edit.Tie as tie
-use Rattle.edits.proofs.edit.Reads as reads
-use Rattle.edits.proofs.edit.Lts as lts
-use Rattle.edits.proofs.add_period.Reads as add-period-reads
-use Rattle.edits.proofs.add_row.Reads as add-row-reads
-use Rattle.edits.proofs.add_rule.Reads as add-rule-reads
-use Rattle.edits.proofs.add_type.Reads as add-type-reads
-use Rattle.edits.proofs.delete_row.Reads as delete-row-reads
-use Rattle.edits.proofs.delete_rule.Reads as delete-rule-reads
-use Rattle.edits.proofs.end_period.Reads as end-period-reads
-use Rattle.edits.proofs.end_type.Reads as end-type-reads
-use Rattle.edits.proofs.low.Reads as low-reads
-use Rattle.edits.proofs.period_from.Reads as period-from-reads
-use Rattle.edits.proofs.reorder.Reads as reorder-reads
-use Rattle.edits.proofs.row_from.Reads as row-from-reads
-use Rattle.edits.proofs.rule_from.Reads as rule-from-reads
-use Rattle.edits.proofs.type_from.Reads as type-from-reads
 
--- src/lib.rt:398:26
 type-from-requires : tie.Need-type-from-requires
 type-from-requires c κs = search needs
 
--- src/lib.rt:398:14
 add-type-requires : tie.Need-add-type-requires
 add-type-requires c κs = search needs
 
--- src/lib.rt:399:30
 array-read-low : tie.Need-array-read-low
 array-read-low c = search needs
 
--- src/lib.rt:399:26
 low-requires : tie.Need-low-requires
 low-requires c κs = search needs
 
--- src/lib.rt:399:41
 array-read-low-2 : tie.Need-array-read-low-2
 array-read-low-2 c = search needs
 
--- src/lib.rt:399:37
 low-requires-2 : tie.Need-low-requires-2
 low-requires-2 c κs = search needs
 
--- src/lib.rt:399:52
 array-read-low-3 : tie.Need-array-read-low-3
 array-read-low-3 c = search needs
 
--- src/lib.rt:399:48
 low-requires-3 : tie.Need-low-requires-3
 low-requires-3 c κs = search needs
 
--- src/lib.rt:399:59
 array-read-end-type : tie.Need-array-read-end-type
 array-read-end-type c = search needs
 
--- src/lib.rt:399:14
 end-type-requires : tie.Need-end-type-requires
 end-type-requires c κs = search needs
 
--- src/lib.rt:400:26
 rule-from-requires : tie.Need-rule-from-requires
 rule-from-requires c κs = search needs
 
--- src/lib.rt:400:14
 add-rule-requires : tie.Need-add-rule-requires
 add-rule-requires c κs = search needs
 
--- src/lib.rt:401:25
 row-from-requires : tie.Need-row-from-requires
 row-from-requires c κs = search needs
 
--- src/lib.rt:401:42
 array-read-low-4 : tie.Need-array-read-low-4
 array-read-low-4 c = search needs
 
--- src/lib.rt:401:38
 low-requires-4 : tie.Need-low-requires-4
 low-requires-4 c κs = search needs
 
--- src/lib.rt:401:14
 reorder-requires : tie.Need-reorder-requires
 reorder-requires c κs = search needs
 
--- src/lib.rt:402:29
 row-from-requires-2 : tie.Need-row-from-requires-2
 row-from-requires-2 c κs = search needs
 
--- src/lib.rt:402:14
 delete-rule-requires : tie.Need-delete-rule-requires
 delete-rule-requires c κs = search needs
 
--- src/lib.rt:403:25
 row-from-requires-3 : tie.Need-row-from-requires-3
 row-from-requires-3 c κs = search needs
 
--- src/lib.rt:403:14
 add-row-requires : tie.Need-add-row-requires
 add-row-requires c κs = search needs
 
--- src/lib.rt:404:28
 row-from-requires-4 : tie.Need-row-from-requires-4
 row-from-requires-4 c κs = search needs
 
--- src/lib.rt:404:14
 delete-row-requires : tie.Need-delete-row-requires
 delete-row-requires c κs = search needs
 
--- src/lib.rt:405:28
 period-from-requires : tie.Need-period-from-requires
 period-from-requires c κs = search needs
 
--- src/lib.rt:405:14
 add-period-requires : tie.Need-add-period-requires
 add-period-requires c κs = search needs
 
--- src/lib.rt:406:28
 period-from-requires-2 : tie.Need-period-from-requires-2
 period-from-requires-2 c κs = search needs
 
--- src/lib.rt:406:14
 end-period-requires : tie.Need-end-period-requires
 end-period-requires c κs = search needs
 
--- src/lib.rt:394:1
 same-length : tie.Need-same-length
 same-length c = search needs
 
--- src/lib.rt:394:1
 returns : tie.Need-returns
 returns c = search edit-T
 
--- src/lib.rt:394:1
 same-length-2 : tie.Need-same-length-2
 same-length-2 c = search needs
 
--- src/lib.rt:394:1
 returns-2 : tie.Need-returns-2
 returns-2 c = search edit-E
 
--- src/lib.rt:394:1
 same-length-3 : tie.Need-same-length-3
 same-length-3 c = search needs
 
--- src/lib.rt:394:1
 returns-3 : tie.Need-returns-3
 returns-3 c = search edit-R
 
--- src/lib.rt:394:1
 same-length-4 : tie.Need-same-length-4
 same-length-4 c = search needs
 
--- src/lib.rt:394:1
 returns-4 : tie.Need-returns-4
 returns-4 c = search edit-O
 
--- src/lib.rt:394:1
 same-length-5 : tie.Need-same-length-5
 same-length-5 c = search needs
 
--- src/lib.rt:394:1
 returns-5 : tie.Need-returns-5
 returns-5 c = search edit-D
 
--- src/lib.rt:394:1
 same-length-6 : tie.Need-same-length-6
 same-length-6 c = search needs
 
--- src/lib.rt:394:1
 returns-6 : tie.Need-returns-6
 returns-6 c = search edit-M
 
--- src/lib.rt:394:1
 same-length-7 : tie.Need-same-length-7
 same-length-7 c = search needs
 
--- src/lib.rt:394:1
 returns-7 : tie.Need-returns-7
 returns-7 c = search edit-N
 
--- src/lib.rt:394:1
 same-length-8 : tie.Need-same-length-8
 same-length-8 c = search needs
 
--- src/lib.rt:394:1
 returns-8 : tie.Need-returns-8
 returns-8 c = search edit-A
 
--- src/lib.rt:394:1
 same-length-9 : tie.Need-same-length-9
 same-length-9 c = search needs
 
--- src/lib.rt:394:1
 returns-9 : tie.Need-returns-9
 returns-9 c = search edit-Z
 
--- src/lib.rt:394:1
 returns-10 : tie.Need-returns-10
 returns-10 c = search edit-Q
 

@@ -1,213 +1,150 @@
+-- `edits::refusal` meets its contract. Assumes nothing.
 use Rattle.edits.proofs.ByLetter.{refusal-T, refusal-E, refusal-R, refusal-O, refusal-D, refusal-M, refusal-N, refusal-A, refusal-Z, refusal-Q}
 use borrow.Author.Needs.{needs}
 use Rattle.edits.proofs.refusal.Statement.{statement}
 use Rattle.edits.proofs.refusal.Tie as tie
-use Rattle.edits.proofs.refusal.Reads as reads
-use Rattle.edits.proofs.refusal.Lts as lts
-use Rattle.edits.proofs.low.Reads as low-reads
-use Rattle.edits.proofs.period_from.Reads as period-from-reads
-use Rattle.edits.proofs.refuse_add_period.Reads as refuse-add-period-reads
-use Rattle.edits.proofs.refuse_add_row.Reads as refuse-add-row-reads
-use Rattle.edits.proofs.refuse_add_rule.Reads as refuse-add-rule-reads
-use Rattle.edits.proofs.refuse_add_type.Reads as refuse-add-type-reads
-use Rattle.edits.proofs.refuse_delete_row.Reads as refuse-delete-row-reads
-use Rattle.edits.proofs.refuse_delete_rule.Reads as refuse-delete-rule-reads
-use Rattle.edits.proofs.refuse_end_period.Reads as refuse-end-period-reads
-use Rattle.edits.proofs.refuse_end_type.Reads as refuse-end-type-reads
-use Rattle.edits.proofs.refuse_reorder.Reads as refuse-reorder-reads
-use Rattle.edits.proofs.row_from.Reads as row-from-reads
-use Rattle.edits.proofs.rule_from.Reads as rule-from-reads
-use Rattle.edits.proofs.type_from.Reads as type-from-reads
 
--- src/lib.rt:380:33
 array-read-refuse-add-type : tie.Need-array-read-refuse-add-type
 array-read-refuse-add-type c = search needs
 
--- src/lib.rt:380:39
 type-from-requires : tie.Need-type-from-requires
 type-from-requires c κs = search needs
 
--- src/lib.rt:380:14
 refuse-add-type-requires : tie.Need-refuse-add-type-requires
 refuse-add-type-requires c κs = search needs
 
--- src/lib.rt:381:37
 array-read-low : tie.Need-array-read-low
 array-read-low c = search needs
 
--- src/lib.rt:381:33
 low-requires : tie.Need-low-requires
 low-requires c κs = search needs
 
--- src/lib.rt:381:44
 array-read-refuse-end-type : tie.Need-array-read-refuse-end-type
 array-read-refuse-end-type c = search needs
 
--- src/lib.rt:381:54
 array-read-low-2 : tie.Need-array-read-low-2
 array-read-low-2 c = search needs
 
--- src/lib.rt:381:50
 low-requires-2 : tie.Need-low-requires-2
 low-requires-2 c κs = search needs
 
--- src/lib.rt:381:65
 array-read-low-3 : tie.Need-array-read-low-3
 array-read-low-3 c = search needs
 
--- src/lib.rt:381:61
 low-requires-3 : tie.Need-low-requires-3
 low-requires-3 c κs = search needs
 
--- src/lib.rt:381:72
 array-read-refuse-end-type-2 : tie.Need-array-read-refuse-end-type-2
 array-read-refuse-end-type-2 c = search needs
 
--- src/lib.rt:381:14
 refuse-end-type-requires : tie.Need-refuse-end-type-requires
 refuse-end-type-requires c κs = search needs
 
--- src/lib.rt:382:33
 array-read-refuse-add-rule : tie.Need-array-read-refuse-add-rule
 array-read-refuse-add-rule c = search needs
 
--- src/lib.rt:382:39
 rule-from-requires : tie.Need-rule-from-requires
 rule-from-requires c κs = search needs
 
--- src/lib.rt:382:14
 refuse-add-rule-requires : tie.Need-refuse-add-rule-requires
 refuse-add-rule-requires c κs = search needs
 
--- src/lib.rt:383:36
 array-read-low-4 : tie.Need-array-read-low-4
 array-read-low-4 c = search needs
 
--- src/lib.rt:383:32
 low-requires-4 : tie.Need-low-requires-4
 low-requires-4 c κs = search needs
 
--- src/lib.rt:383:47
 array-read-low-5 : tie.Need-array-read-low-5
 array-read-low-5 c = search needs
 
--- src/lib.rt:383:43
 low-requires-5 : tie.Need-low-requires-5
 low-requires-5 c κs = search needs
 
--- src/lib.rt:383:58
 array-read-low-6 : tie.Need-array-read-low-6
 array-read-low-6 c = search needs
 
--- src/lib.rt:383:54
 low-requires-6 : tie.Need-low-requires-6
 low-requires-6 c κs = search needs
 
--- src/lib.rt:383:69
 array-read-low-7 : tie.Need-array-read-low-7
 array-read-low-7 c = search needs
 
--- src/lib.rt:383:65
 low-requires-7 : tie.Need-low-requires-7
 low-requires-7 c κs = search needs
 
--- src/lib.rt:383:80
 array-read-low-8 : tie.Need-array-read-low-8
 array-read-low-8 c = search needs
 
--- src/lib.rt:383:76
 low-requires-8 : tie.Need-low-requires-8
 low-requires-8 c κs = search needs
 
--- src/lib.rt:383:14
 refuse-reorder-requires : tie.Need-refuse-reorder-requires
 refuse-reorder-requires c κs = search needs
 
--- src/lib.rt:384:36
 row-from-requires : tie.Need-row-from-requires
 row-from-requires c κs = search needs
 
--- src/lib.rt:384:14
 refuse-delete-rule-requires : tie.Need-refuse-delete-rule-requires
 refuse-delete-rule-requires c κs = search needs
 
--- src/lib.rt:385:32
 row-from-requires-2 : tie.Need-row-from-requires-2
 row-from-requires-2 c κs = search needs
 
--- src/lib.rt:385:14
 refuse-add-row-requires : tie.Need-refuse-add-row-requires
 refuse-add-row-requires c κs = search needs
 
--- src/lib.rt:386:35
 row-from-requires-3 : tie.Need-row-from-requires-3
 row-from-requires-3 c κs = search needs
 
--- src/lib.rt:386:14
 refuse-delete-row-requires : tie.Need-refuse-delete-row-requires
 refuse-delete-row-requires c κs = search needs
 
--- src/lib.rt:387:35
 array-read-refuse-add-period : tie.Need-array-read-refuse-add-period
 array-read-refuse-add-period c = search needs
 
--- src/lib.rt:387:41
 period-from-requires : tie.Need-period-from-requires
 period-from-requires c κs = search needs
 
--- src/lib.rt:387:14
 refuse-add-period-requires : tie.Need-refuse-add-period-requires
 refuse-add-period-requires c κs = search needs
 
--- src/lib.rt:388:35
 array-read-refuse-end-period : tie.Need-array-read-refuse-end-period
 array-read-refuse-end-period c = search needs
 
--- src/lib.rt:388:41
 period-from-requires-2 : tie.Need-period-from-requires-2
 period-from-requires-2 c κs = search needs
 
--- src/lib.rt:388:14
 refuse-end-period-requires : tie.Need-refuse-end-period-requires
 refuse-end-period-requires c κs = search needs
 
--- src/lib.rt:376:1
 returns : tie.Need-returns
 returns c = search refusal-T
 
--- src/lib.rt:376:1
 returns-2 : tie.Need-returns-2
 returns-2 c = search refusal-E
 
--- src/lib.rt:376:1
 returns-3 : tie.Need-returns-3
 returns-3 c = search refusal-R
 
--- src/lib.rt:376:1
 returns-4 : tie.Need-returns-4
 returns-4 c = search refusal-O
 
--- src/lib.rt:376:1
 returns-5 : tie.Need-returns-5
 returns-5 c = search refusal-D
 
--- src/lib.rt:376:1
 returns-6 : tie.Need-returns-6
 returns-6 c = search refusal-M
 
--- src/lib.rt:376:1
 returns-7 : tie.Need-returns-7
 returns-7 c = search refusal-N
 
--- src/lib.rt:376:1
 returns-8 : tie.Need-returns-8
 returns-8 c = search refusal-A
 
--- src/lib.rt:376:1
 returns-9 : tie.Need-returns-9
 returns-9 c = search refusal-Z
 
--- src/lib.rt:376:1
 returns-10 : tie.Need-returns-10
 returns-10 c = search refusal-Q
 

@@ -1,69 +1,51 @@
+-- `edits::rule_from` meets its contract. Assumes nothing.
 use Rattle.edits.proofs.Does.{rule-made}
 use borrow.Author.Needs.{needs}
 use Rattle.edits.proofs.rule_from.Statement.{statement}
 use Rattle.edits.proofs.rule_from.Tie as tie
-use Rattle.edits.proofs.rule_from.Reads as reads
-use Rattle.edits.proofs.rule_from.Lts as lts
-use Rattle.edits.proofs.low.Reads as low-reads
-use Rattle.places.proofs.Rule.new.Reads as new-reads
 
--- src/lib.rt:357:19
 array-read-low : tie.Need-array-read-low
 array-read-low c = search needs
 
--- src/lib.rt:357:15
 low-requires : tie.Need-low-requires
 low-requires c κs = search needs
 
--- src/lib.rt:357:30
 array-read-low-2 : tie.Need-array-read-low-2
 array-read-low-2 c = search needs
 
--- src/lib.rt:357:26
 low-requires-2 : tie.Need-low-requires-2
 low-requires-2 c κs = search needs
 
--- src/lib.rt:357:41
 array-read-low-3 : tie.Need-array-read-low-3
 array-read-low-3 c = search needs
 
--- src/lib.rt:357:37
 low-requires-3 : tie.Need-low-requires-3
 low-requires-3 c κs = search needs
 
--- src/lib.rt:357:52
 array-read-low-4 : tie.Need-array-read-low-4
 array-read-low-4 c = search needs
 
--- src/lib.rt:357:48
 low-requires-4 : tie.Need-low-requires-4
 low-requires-4 c κs = search needs
 
--- src/lib.rt:357:63
 array-read-low-5 : tie.Need-array-read-low-5
 array-read-low-5 c = search needs
 
--- src/lib.rt:357:59
 low-requires-5 : tie.Need-low-requires-5
 low-requires-5 c κs = search needs
 
--- src/lib.rt:357:70
 array-read-new : tie.Need-array-read-new
 array-read-new c = search needs
 
--- src/lib.rt:357:76
 array-read-new-2 : tie.Need-array-read-new-2
 array-read-new-2 c = search needs
 
--- src/lib.rt:357:82
 array-read-new-3 : tie.Need-array-read-new-3
 array-read-new-3 c = search needs
 
--- src/lib.rt:357:5
 new-requires : tie.Need-new-requires
 new-requires c κs = search needs
 
--- src/lib.rt:354:1
 returns : tie.Need-returns
 returns c = search rule-made
 

@@ -1,24 +1,18 @@
+-- `edits::store_period` meets its contract. Assumes nothing.
 use Rattle.edits.proofs.Does.{period-stored, period-unstored}
 use borrow.Author.Needs.{needs}
 use Rattle.edits.proofs.store_period.Statement.{statement}
 use Rattle.edits.proofs.store_period.Tie as tie
-use Rattle.edits.proofs.store_period.Reads as reads
-use Rattle.edits.proofs.store_period.Lts as lts
-use Rattle.places.proofs.put_period.Reads as put-period-reads
 
--- src/lib.rt:221:9
 put-period-requires : tie.Need-put-period-requires
 put-period-requires c κs = search needs
 
--- src/lib.rt:217:1
 same-length : tie.Need-same-length
 same-length c = search needs
 
--- src/lib.rt:217:1
 returns : tie.Need-returns
 returns c = search period-stored
 
--- src/lib.rt:217:1
 returns-2 : tie.Need-returns-2
 returns-2 c = search period-unstored
 

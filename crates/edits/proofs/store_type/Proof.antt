@@ -1,24 +1,18 @@
+-- `edits::store_type` meets its contract. Assumes nothing.
 use Rattle.edits.proofs.Does.{type-stored, type-unstored}
 use borrow.Author.Needs.{needs}
 use Rattle.edits.proofs.store_type.Statement.{statement}
 use Rattle.edits.proofs.store_type.Tie as tie
-use Rattle.edits.proofs.store_type.Reads as reads
-use Rattle.edits.proofs.store_type.Lts as lts
-use Rattle.places.proofs.put_type.Reads as put-type-reads
 
--- src/lib.rt:197:9
 put-type-requires : tie.Need-put-type-requires
 put-type-requires c κs = search needs
 
--- src/lib.rt:193:1
 same-length : tie.Need-same-length
 same-length c = search needs
 
--- src/lib.rt:193:1
 returns : tie.Need-returns
 returns c = search type-stored
 
--- src/lib.rt:193:1
 returns-2 : tie.Need-returns-2
 returns-2 c = search type-unstored
 

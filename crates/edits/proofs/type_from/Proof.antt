@@ -1,57 +1,42 @@
+-- `edits::type_from` meets its contract. Assumes nothing.
 use Rattle.edits.specs.Asked.{typeFrom}
 use borrow.Author.Needs.{needs}
 use Rattle.edits.proofs.type_from.Statement.{statement}
 use Rattle.edits.proofs.type_from.Tie as tie
-use Rattle.edits.proofs.type_from.Reads as reads
-use Rattle.edits.proofs.type_from.Lts as lts
-use Rattle.edits.proofs.low.Reads as low-reads
-use Rattle.places.proofs.RestrictionType.new.Reads as new-reads
 
--- src/lib.rt:351:30
 array-read-low : tie.Need-array-read-low
 array-read-low c = search needs
 
--- src/lib.rt:351:26
 low-requires : tie.Need-low-requires
 low-requires c κs = search needs
 
--- src/lib.rt:351:41
 array-read-low-2 : tie.Need-array-read-low-2
 array-read-low-2 c = search needs
 
--- src/lib.rt:351:37
 low-requires-2 : tie.Need-low-requires-2
 low-requires-2 c κs = search needs
 
--- src/lib.rt:351:52
 array-read-low-3 : tie.Need-array-read-low-3
 array-read-low-3 c = search needs
 
--- src/lib.rt:351:48
 low-requires-3 : tie.Need-low-requires-3
 low-requires-3 c κs = search needs
 
--- src/lib.rt:351:63
 array-read-low-4 : tie.Need-array-read-low-4
 array-read-low-4 c = search needs
 
--- src/lib.rt:351:59
 low-requires-4 : tie.Need-low-requires-4
 low-requires-4 c κs = search needs
 
--- src/lib.rt:351:70
 array-read-new : tie.Need-array-read-new
 array-read-new c = search needs
 
--- src/lib.rt:351:76
 array-read-new-2 : tie.Need-array-read-new-2
 array-read-new-2 c = search needs
 
--- src/lib.rt:351:5
 new-requires : tie.Need-new-requires
 new-requires c κs = search needs
 
--- src/lib.rt:348:1
 returns : tie.Need-returns
 unfolding typeFrom
 returns c = cc
