@@ -16,37 +16,16 @@ Inv-loop b₀ key new i₀ b i =
 abbrev μ-loop : tie.MeasureT-loop
 μ-loop b₀ key new i₀ b i = 1024 - i
 
-loop-holds : tie.Need-loop-holds Inv-loop μ-loop
-loop-holds c = (search needs, search carry-none)
-
-carry-row-requires : tie.Need-carry-row-requires Inv-loop μ-loop
-carry-row-requires c κs = search needs
-
-add-i : tie.Need-add-i Inv-loop μ-loop
-add-i c = omega arith
-
-loop-less : tie.Need-loop-less Inv-loop μ-loop
-loop-less c = omega arith
-
-loop-again : tie.Need-loop-again Inv-loop μ-loop
-loop-again c = (omega arith, search carry-next)
-
-same-length : tie.Need-same-length Inv-loop μ-loop
-same-length c = ap length (c .before .loop .inv .1) ∙ carried-length _ _ _ _ _ _ _
-
-returns : tie.Need-returns Inv-loop μ-loop
-returns c = let e : c .before .loop .i ≡ 1024 = omega arith in rw e at (c .before .loop .inv .1)
-
 pub carry-rows-spec : {M : Type 1} → statement M
 carry-rows-spec =
     tie.close
     (tie.spec
     Inv-loop
     μ-loop
-    loop-holds
-    carry-row-requires
-    add-i
-    loop-less
-    loop-again
-    same-length
-    returns)
+    (λ c. (search needs, search carry-none))
+    (λ c κs. search needs)
+    (λ c. omega arith)
+    (λ c. omega arith)
+    (λ c. (omega arith, search carry-next))
+    (λ c. ap length (c .before .loop .inv .1) ∙ carried-length _ _ _ _ _ _ _)
+    (λ c. let e : c .before .loop .i ≡ 1024 = omega arith in rw e at (c .before .loop .inv .1)))
