@@ -1,5 +1,6 @@
 // Fills a book place by place and asks questions of it. Standard input is made by tools/judging.py: a line is a letter and numbers, T, R, M
 // or A with a place and the record to be stored there, or Q with a question. For each question a V line is written, as the desk prints it.
+ghost use mathlib.Core.Path.{_≡_};
 use judge::Question;
 use libc::STDIN_FILENO;
 use libc::STDOUT_FILENO;
@@ -24,10 +25,16 @@ fn begun() -> Line {
     }
 }
 
+fn wide(x: u8) -> u32
+    ensures { λ r. ⌜ r ≡ x ⌝ }
+{
+    x as u32
+}
+
 // A number with one digit more, as far as 32 bits reach.
 fn with_digit(n: u32, digit: u8) -> u32 {
     if n < 400000000 {
-        n * 10 + places::wide(digit % 10)
+        n * 10 + wide(digit % 10)
     } else {
         n
     }

@@ -2,7 +2,24 @@
 use Prim.Native.Nat.{ℕ}
 use mathlib.Core.List.{List, _∷_}
 use Rattle.tables.specs.Count.{without, change}
-use Rattle.meaning.specs.Records.{TypeRecord, Rule, Row, Period, Book, Command, addType, endType, addRule, reorder, deleteRule, addRow, deleteRow, addPeriod, endPeriod, ask}
+use Rattle.meaning.specs.Records.{
+  TypeRecord,
+  Rule,
+  Row,
+  Period,
+  Book,
+  Command,
+  addType,
+  endType,
+  addRule,
+  reorder,
+  deleteRule,
+  addRow,
+  deleteRow,
+  addPeriod,
+  endPeriod,
+  ask,
+}
 use Rattle.meaning.specs.Keys.{isType, isRule, ofRule, isRow, isPeriod}
 
 -- the record with another last day

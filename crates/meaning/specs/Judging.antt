@@ -4,7 +4,20 @@ use mathlib.Core.Bool.{Bool, true, false, not, _&&_}
 use mathlib.Core.List.{List, [], _∷_}
 use lib.Dec.{leb, eqb}
 use Rattle.tables.specs.Count.{has, least}
-use Rattle.meaning.specs.Records.{TypeRecord, Rule, Book, Question, positive, negative, party, account, security, rejection, validationHold, partyHold}
+use Rattle.meaning.specs.Records.{
+  TypeRecord,
+  Rule,
+  Book,
+  Question,
+  positive,
+  negative,
+  party,
+  account,
+  security,
+  rejection,
+  validationHold,
+  partyHold,
+}
 use Rattle.meaning.specs.Keys.{ofRule}
 use Rattle.meaning.specs.declared.Deciding.{Deciding}
 use Rattle.meaning.specs.declared.Verdict.{Verdict}

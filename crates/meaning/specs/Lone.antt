@@ -6,7 +6,22 @@ use lib.ListN.{getD}
 use Rattle.tables.specs.Count.{keep}
 use Rattle.meaning.specs.Text.{same}
 use Rattle.meaning.specs.Fields.{within, fields}
-use Rattle.meaning.specs.Records.{Book, empty, Command, commandOf, addType, endType, addRule, reorder, deleteRule, addRow, deleteRow, addPeriod, endPeriod, ask}
+use Rattle.meaning.specs.Records.{
+  Book,
+  empty,
+  Command,
+  commandOf,
+  addType,
+  endType,
+  addRule,
+  reorder,
+  deleteRule,
+  addRow,
+  deleteRow,
+  addPeriod,
+  endPeriod,
+  ask,
+}
 use Rattle.meaning.specs.Reading.{Reading, refused, asks, reading}
 use Rattle.meaning.specs.Refusals.{refusal}
 use Rattle.meaning.specs.Edits.{edited}

@@ -7,7 +7,20 @@ use lib.Dec.{ltb, eqb}
 use lib.ListN.{length}
 use Rattle.meaning.specs.Fields.{wellMade, fields}
 use Rattle.meaning.specs.Forms.{Form, read, Letter, letterOf, formsOf}
-use Rattle.meaning.specs.Records.{Command, commandOf, addType, endType, addRule, reorder, deleteRule, addRow, deleteRow, addPeriod, endPeriod, ask}
+use Rattle.meaning.specs.Records.{
+  Command,
+  commandOf,
+  addType,
+  endType,
+  addRule,
+  reorder,
+  deleteRule,
+  addRow,
+  deleteRow,
+  addPeriod,
+  endPeriod,
+  ask,
+}
 
 -- what no single field shows of refusal 5
 unfoldable pub wrong : Command → Bool

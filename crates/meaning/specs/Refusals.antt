@@ -5,7 +5,28 @@ use mathlib.Core.List.{List, [], _∷_}
 use lib.Dec.{leb, ltb, eqb}
 use lib.ListN.{length}
 use Rattle.tables.specs.Count.{has}
-use Rattle.meaning.specs.Records.{TypeRecord, Rule, Row, Period, Book, Command, addType, endType, addRule, reorder, deleteRule, addRow, deleteRow, addPeriod, endPeriod, ask, typeQuota, ruleQuota, rowQuota, periodQuota}
+use Rattle.meaning.specs.Records.{
+  TypeRecord,
+  Rule,
+  Row,
+  Period,
+  Book,
+  Command,
+  addType,
+  endType,
+  addRule,
+  reorder,
+  deleteRule,
+  addRow,
+  deleteRow,
+  addPeriod,
+  endPeriod,
+  ask,
+  typeQuota,
+  ruleQuota,
+  rowQuota,
+  periodQuota,
+}
 use Rattle.meaning.specs.Keys.{isType, isRule, ofRule, isRow, isPeriod, clash, filled}
 
 -- the number of the first condition that holds; 0 where none does

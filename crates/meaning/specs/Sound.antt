@@ -5,8 +5,43 @@ use mathlib.Core.Bool.{Bool, true, not, _&&_}
 use lib.Dec.{eqb, leb}
 use lib.ListN.{length}
 use Rattle.tables.specs.Count.{count, has, every}
-use Rattle.meaning.specs.Forms.{holds, holdsAll, day, code, typeForm, objectForm, processingForm, sequenceForm, signForm, criteriaForm, kindForm, numberForm, tenValues}
-use Rattle.meaning.specs.Records.{TypeRecord, Rule, Row, Period, Book, Command, addType, endType, addRule, reorder, deleteRule, addRow, deleteRow, addPeriod, endPeriod, ask, typeQuota, ruleQuota, rowQuota, periodQuota}
+use Rattle.meaning.specs.Forms.{
+  holds,
+  holdsAll,
+  day,
+  code,
+  typeForm,
+  objectForm,
+  processingForm,
+  sequenceForm,
+  signForm,
+  criteriaForm,
+  kindForm,
+  numberForm,
+  tenValues,
+}
+use Rattle.meaning.specs.Records.{
+  TypeRecord,
+  Rule,
+  Row,
+  Period,
+  Book,
+  Command,
+  addType,
+  endType,
+  addRule,
+  reorder,
+  deleteRule,
+  addRow,
+  deleteRow,
+  addPeriod,
+  endPeriod,
+  ask,
+  typeQuota,
+  ruleQuota,
+  rowQuota,
+  periodQuota,
+}
 use Rattle.meaning.specs.Keys.{isType, isRule, isRow, clash, filled}
 
 -- ---- ranges

@@ -3,7 +3,27 @@ use Prim.Native.Nat.{ℕ, zero, suc, _-_}
 use mathlib.Core.List.{List, [], _∷_, _++_}
 use lib.ListN.{getD}
 use Rattle.meaning.specs.Text.{bytes, numeral, spelled}
-use Rattle.meaning.specs.Forms.{Form, upTo, code, day, letters, oneOf, optional, formsOf, Letter, letterT, letterE, letterR, letterO, letterD, letterM, letterN, letterA, letterZ, letterQ}
+use Rattle.meaning.specs.Forms.{
+  Form,
+  upTo,
+  code,
+  day,
+  letters,
+  oneOf,
+  optional,
+  formsOf,
+  Letter,
+  letterT,
+  letterE,
+  letterR,
+  letterO,
+  letterD,
+  letterM,
+  letterN,
+  letterA,
+  letterZ,
+  letterQ,
+}
 
 -- the field of that form that gives the number
 unfoldable pub write : Form → ℕ → List ℕ
