@@ -7,7 +7,7 @@ use lib.Dec.{eqb}
 use borrow.Author.Tests.{lt-ltb, le-ltb, eq-eqb, ne-eqb}
 use Rattle.meaning.specs.Keys.{ofRule}
 use Rattle.meaning.specs.Records.{_!_}
-use Rattle.places.specs.Layout.{putType, ruleAt, putRule, rowAt, putRow, zeroRow, putPeriod}
+use Rattle.places.specs.Layout.{putType, ruleAt, putRule, rowAt, putRow, zeroRow, putPeriod, typeAt, periodAt, zeroRule}
 use Rattle.places.specs.declared.RestrictionType.{RestrictionType}
 use Rattle.places.specs.declared.Rule.{Rule}
 use Rattle.places.specs.declared.Row.{Row}
@@ -18,10 +18,10 @@ use Rattle.records.specs.declared.TypeAsk.the-variants as Types
 use Rattle.records.specs.declared.RuleAsk.the-variants as Rules
 use Rattle.records.specs.declared.RowAsk.the-variants as Rows
 use Rattle.records.specs.declared.PeriodAsk.the-variants as Periods
-use Rattle.book.specs.Places.{rulePlace}
+use Rattle.book.specs.Places.{typePlace, rulePlace, rowPlace, periodPlace}
 use Rattle.edits.specs.Asked.{byte, ruleFrom, rowFrom}
 use Rattle.edits.specs.Moves.{ruleWith, rowWith, carryRow, carryRows}
-use Rattle.edits.specs.Edit.{storeType, storeRule, storeRow, storePeriod, reorderedRule}
+use Rattle.edits.specs.Edit.{freeType, freeRule, freeRow, freePeriod, typeEnded, periodEnded, storeType, storeRule, storeRow, storePeriod, endedType, endedPeriod, deletedRule, deletedRow, reorderedRule}
 
 module _ (b b′ : List ℕ) (i : ℕ) where
   pub type-stored : (r : RestrictionType) → i < 128 → b′ ≡ putType b i r → b′ ≡ storeType b i r
@@ -96,3 +96,38 @@ module _ (v : List ℕ) (c n o s g : ℕ) where
 pub row-made : (v : List ℕ) (c n o s : ℕ) (r : Row) → r ≡ record { csd = c; number = n; object = o; sequence = s; values = v ! 5 ∷ v ! 6 ∷ v ! 7 ∷ v ! 8 ∷ v ! 9 ∷ v ! 10 ∷ v ! 11 ∷ v ! 12 ∷ v ! 13 ∷ v ! 14 ∷ [] } → s ≡ byte v 4 → o ≡ byte v 3 → n ≡ byte v 2 → c ≡ byte v 0 → r ≡ rowFrom v
 unfolding rowFrom
 row-made v c n o s r e f h i j = e ∙ rw (f, h, i, j)
+
+-- ---- the edits: a place is found, and a record is stored there
+
+module _ (b b′ : List ℕ) (i : ℕ) where
+  pub type-added-free : (r : RestrictionType) → b′ ≡ storeType b i r → i ≡ typePlace b 0 Types.Any → b′ ≡ storeType b (freeType b) r
+  type-added-free r e f = e ∙ ap (λ j. storeType b j r) f
+
+  pub rule-added-free : (r : Rule) (z : Row) → b′ ≡ storeRule b i r → i ≡ rulePlace b 0 Rules.Any (rowOf z) → z ≡ zeroRow → b′ ≡ storeRule b (freeRule b) r
+  rule-added-free r z e f g = e ∙ ap (λ j. storeRule b j r) (f ∙ ap (λ w. rulePlace b 0 Rules.Any (rowOf w)) g)
+
+  pub row-added-free : (r z : Row) → b′ ≡ storeRow b i r → i ≡ rowPlace b 0 Rows.Any (rowOf z) → z ≡ zeroRow → b′ ≡ storeRow b (freeRow b) r
+  row-added-free r z e f g = e ∙ ap (λ j. storeRow b j r) (f ∙ ap (λ w. rowPlace b 0 Rows.Any (rowOf w)) g)
+
+  pub period-added-free : (r : Period) → b′ ≡ storePeriod b i r → i ≡ periodPlace b 0 Periods.Any → b′ ≡ storePeriod b (freePeriod b) r
+  period-added-free r e f = e ∙ ap (λ j. storePeriod b j r) f
+
+  pub type-ended-there : (c n o last : ℕ) (r x : RestrictionType) → b′ ≡ storeType b i x → x ≡ record { csd = r .csd; number = r .number; object = r .object; processing = r .processing; first = r .first; last = last } → r ≡ typeAt b i → i ≡ typePlace b c (Types.Named n o) → b′ ≡ endedType b c n o last
+  unfolding endedType
+  type-ended-there c n o last r x e f g h =
+      e ∙ ap (storeType b i) (f ∙ ap (typeEnded last) g) ∙ ap (λ j. storeType b j (typeEnded last (typeAt b j))) h
+
+  pub period-ended-there : (p r x : Period) → b′ ≡ storePeriod b i x → x ≡ record { csd = r .csd; kind = r .kind; number = r .number; code = r .code; first = r .first; last = p .last } → r ≡ periodAt b i → i ≡ periodPlace b (p .csd) (Periods.Named (p .kind) (p .number) (p .code) (p .first)) → b′ ≡ endedPeriod b p
+  unfolding endedPeriod
+  period-ended-there p r x e f g h =
+      e ∙ ap (storePeriod b i) (f ∙ ap (periodEnded (p .last)) g) ∙ ap (λ j. storePeriod b j (periodEnded (p .last) (periodAt b j))) h
+
+  pub rule-deleted-there : (w z : Row) (x : Rule) → b′ ≡ storeRule b i x → x ≡ zeroRule → i ≡ rulePlace b (w .csd) (Rules.Named (w .number) (w .object) (w .sequence)) (rowOf z) → z ≡ zeroRow → b′ ≡ deletedRule b (w .csd) (w .number) (w .object) (w .sequence)
+  unfolding deletedRule
+  rule-deleted-there w z x e f g h =
+      e ∙ ap (storeRule b i) f
+      ∙ ap (λ j. storeRule b j zeroRule) (g ∙ ap (λ y. rulePlace b (w .csd) (Rules.Named (w .number) (w .object) (w .sequence)) (rowOf y)) h)
+
+  pub row-deleted-there : (w x : Row) → b′ ≡ storeRow b i x → x ≡ zeroRow → i ≡ rowPlace b (w .csd) Rows.Same (rowOf w) → b′ ≡ deletedRow b (w .csd) (rowOf w)
+  unfolding deletedRow
+  row-deleted-there w x e f g = e ∙ ap (storeRow b i) f ∙ ap (λ j. storeRow b j zeroRow) g

@@ -6,7 +6,7 @@ use mathlib.Core.List.{List, [], _∷_}
 use native.Mathlib.Omega.{arith}
 use lib.Dec.{eqb, leb, ltb}
 use lib.ListN.{length}
-use borrow.Author.Tests.{eqb-true, eq-eqb, leb-true, leb-false, le-leb, ltb-false, not-true}
+use borrow.Author.Tests.{eqb-true, eq-eqb, leb-true, leb-false, le-leb, ltb-false, not-true, not-false}
 use Rattle.tables.specs.Count.{count, has, every, keep, alter, without, change, Same}
 use Rattle.tables.proofs.Counts.{cases, both, agree, neither, and-l, ands, bit-most, count-cons, count-ext, count-keep, count-alter, count-either}
 use Rattle.tables.proofs.Lists.{has-cons, has-true, has-false, true-has, count-no, every-both, every-map, every-alter, every-keep, every-none, every-any, count-under, count-kept, length-keep, length-alter, some-of}
@@ -22,10 +22,6 @@ use Rattle.meaning.proofs.First.{none-hold}
 use Rattle.meaning.proofs.Ranges.{reading-fits}
 use Rattle.meaning.specs.Sound.{daysFit, keyFits, typeFits, ruleFits, rowFits, periodFits, fits, fillsRule, soundLone}
 use Rattle.meaning.proofs.Good.{Good, typeAsk, typeKey, type-hit, ruleAsk, ruleKey, rule-hit, row-key, rule-key, of-key, is-rule, is-of, row-self, row-of-rule, rule-of-row, good-of-sound, sound-of-good}
-
-no-not : (t : Bool) → not t ≡ false → t ≡ true
-no-not true e = refl
-no-not false e = absurd (false≢true (sym e))
 
 every-cons : {R : Type 0} (p : R → Bool) (x : R) (l : List R) → p x ≡ true → every p l ≡ true → every p (x ∷ l) ≡ true
 unfolding every
@@ -181,7 +177,7 @@ module _ (b : Book) (g : Good b) where
       ))
     where
       each : (r : Rule) → not (otherCriteria w r) ≡ true → isRule (w .type) (w .object) (w .sequence) r ≡ true → fillsRule w r ≡ true
-      each r e f = rw f (no-not (eqb (r .criteria) (filled (w .values))) (rw f at (not-true (otherCriteria w r) e)))
+      each r e f = rw f (not-false (eqb (r .criteria) (filled (w .values))) (rw f at (not-true (otherCriteria w r) e)))
 
   good-row : (w : Row) → rowFits w ≡ true → has (isRule (w .type) (w .object) (w .sequence)) (b .rules) ≡ true → has (isRow w) (b .rows) ≡ false → has (otherCriteria w) (b .rules) ≡ false → length (b .rows) < 128 → Good (edited b (addRow w))
   unfolding edited
@@ -568,7 +564,7 @@ good-edited b g (endType d n o last) f e =
     good-type-end b g d n o last f (h .1 .1 .0)
 good-edited b g (addRule d r) f e =
     let n = none-hold (conditions b (addRule d r)) refl e in
-    good-rule b g d r f (no-not (has (isType (r .type) (r .object)) (b .types)) (n .1 .0)) (n .1 .1 .0)
+    good-rule b g d r f (not-false (has (isType (r .type) (r .object)) (b .types)) (n .1 .0)) (n .1 .1 .0)
     (leb-false 64 (length (b .rules)) (n .1 .1 .1 .0))
 good-edited b g (reorder n o s new) f e =
     let h = none-hold (conditions b (reorder n o s new)) refl e in
@@ -578,7 +574,7 @@ good-edited b g (deleteRule n o s) f e =
     good-rule-out b g n o s (h .1 .0)
 good-edited b g (addRow w) f e =
     let n = none-hold (conditions b (addRow w)) refl e in
-    good-row b g w f (no-not (has (isRule (w .type) (w .object) (w .sequence)) (b .rules)) (n .0)) (n .1 .0) (n .1 .1 .0)
+    good-row b g w f (not-false (has (isRule (w .type) (w .object) (w .sequence)) (b .rules)) (n .0)) (n .1 .0) (n .1 .1 .0)
     (leb-false 128 (length (b .rows)) (n .1 .1 .1 .0))
 good-edited b g (deleteRow w) f e = good-row-out b g w
 good-edited b g (addPeriod d p) f e =

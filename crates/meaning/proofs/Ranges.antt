@@ -9,7 +9,7 @@ use lib.Dec.{eqb, leb, ltb}
 use lib.ListN.{length, getD}
 use borrow.Author.Tests.{eqb-true, eq-eqb, leb-true, le-leb, ltb-false}
 use Rattle.tables.specs.Count.{every}
-use Rattle.tables.proofs.Counts.{cases, both, and-r}
+use Rattle.tables.proofs.Counts.{cases, both, neither, and-r}
 use Rattle.meaning.specs.Text.{same, placed, word, decimal}
 use Rattle.meaning.specs.Fields.{within, isCapital, wellMade, fields}
 use Rattle.meaning.specs.Forms.{Form, upTo, code, day, letters, oneOf, optional, isNumber, isCode, isDay, isWord, given, read, holds, holdsAll, letterOf, formsOf, Letter, letterT, letterE, letterR, letterO, letterD, letterM, letterN, letterA, letterZ, letterQ}
@@ -97,10 +97,6 @@ holds-at (φ ∷ φs) [] e i l = absurd (false≢true e)
 holds-at (φ ∷ φs) (n ∷ ns) e zero l = both (holds φ n) (holdsAll φs ns) e .0
 holds-at (φ ∷ φs) (n ∷ ns) e (suc i) l = holds-at φs ns (both (holds φ n) (holdsAll φs ns) e .1) i (omega arith)
 
-or-no : (s t : Bool) → (s || t) ≡ false → (s ≡ false) × (t ≡ false)
-or-no true t e = absurd (false≢true (sym e))
-or-no false t e = (refl, e)
-
 not-after : (a b : ℕ) → ltb b a ≡ false → leb a b ≡ true
 not-after a b e = le-leb a b (ltb-false b a e)
 
@@ -109,7 +105,7 @@ pub command-fits : (l : Letter) (v : List ℕ) → holdsAll (formsOf l) v ≡ tr
 unfolding formsOf commandOf wrong fits typeFits ruleFits rowFits periodFits keyFits daysFit holdsAll
 command-fits letterT v e w =
     let h = holds-at (formsOf letterT) v e in
-    let n = or-no (eqb (v ! 4) 3 && eqb (v ! 3) 2) (ltb (v ! 6) (v ! 5)) w in
+    let n = neither (eqb (v ! 4) 3 && eqb (v ! 3) 2) (ltb (v ! 6) (v ! 5)) w in
     rw (h 2 (omega arith), h 3 (omega arith), h 4 (omega arith), n .0, h 5 (omega arith), h 6 (omega arith))
     (not-after (v ! 5) (v ! 6) (n .1))
 command-fits letterE v e w = holds-at (formsOf letterE) v e 4 (omega arith)

@@ -13,7 +13,8 @@ use Rattle.precheck.specs.Promise.{Submitted}
 -- lines sent one by one to a book, and their answers: each step is exactly what `submit` promises. Lines are any bytes.
 pub data Run : List ℕ → List (List ℕ) → List Answer → Type 0 where
   done : {book : List ℕ} → Run book [] []
-  sent : {book next line : List ℕ} {answer : Answer} {lines : List (List ℕ)} {answers : List Answer} → Submitted book line answer next → Run next lines answers → Run book (line ∷ lines) (answer ∷ answers)
+  sent : {book next line : List ℕ} {answer : Answer} {lines : List (List ℕ)} {answers : List Answer}
+      → Submitted book line answer next → Run next lines answers → Run book (line ∷ lines) (answer ∷ answers)
 
 -- the answers at the lines that name depository a
 unfoldable pub answersTo : ℕ → List (List ℕ) → List Answer → List Answer

@@ -62,10 +62,6 @@ module _ {R : Type 0} where
   unfolding has
   true-has p l h = lt-ltb 0 (count p l) h
 
-  pub count-yes : (p : R → Bool) (x : R) (l : List R) → p x ≡ true → count p (x ∷ l) ≡ count p l + 1
-  unfolding count
-  count-yes p x l e = rw e
-
   pub count-no : (p : R → Bool) (x : R) (l : List R) → p x ≡ false → count p (x ∷ l) ≡ count p l
   unfolding count
   count-no p x l e = rw e (omega arith)

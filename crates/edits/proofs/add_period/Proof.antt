@@ -1,5 +1,6 @@
 -- `edits::add_period` meets its contract. Assumes nothing.
 use borrow.Author.Needs.{needs}
+use Rattle.edits.proofs.Does.{period-added-free}
 use Rattle.edits.proofs.add_period.Statement.{statement}
 use Rattle.edits.proofs.add_period.Tie as tie
 
@@ -10,4 +11,4 @@ add-period-spec =
     (λ c κs. search needs)
     (λ c κs. search needs)
     (λ c. search needs)
-    (λ c. cc))
+    (λ c. search period-added-free))

@@ -1,5 +1,6 @@
 -- `edits::add_row` meets its contract. Assumes nothing.
 use borrow.Author.Needs.{needs}
+use Rattle.edits.proofs.Does.{row-added-free}
 use Rattle.edits.proofs.add_row.Statement.{statement}
 use Rattle.edits.proofs.add_row.Tie as tie
 
@@ -11,4 +12,4 @@ add-row-spec =
     (λ c κs. search needs)
     (λ c κs. search needs)
     (λ c. search needs)
-    (λ c. cc))
+    (λ c. search row-added-free))

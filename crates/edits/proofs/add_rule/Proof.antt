@@ -1,5 +1,6 @@
 -- `edits::add_rule` meets its contract. Assumes nothing.
 use borrow.Author.Needs.{needs}
+use Rattle.edits.proofs.Does.{rule-added-free}
 use Rattle.edits.proofs.add_rule.Statement.{statement}
 use Rattle.edits.proofs.add_rule.Tie as tie
 
@@ -11,4 +12,4 @@ add-rule-spec =
     (λ c κs. search needs)
     (λ c κs. search needs)
     (λ c. search needs)
-    (λ c. cc))
+    (λ c. search rule-added-free))

@@ -1,5 +1,6 @@
 -- `edits::add_type` meets its contract. Assumes nothing.
 use borrow.Author.Needs.{needs}
+use Rattle.edits.proofs.Does.{type-added-free}
 use Rattle.edits.proofs.add_type.Statement.{statement}
 use Rattle.edits.proofs.add_type.Tie as tie
 
@@ -10,4 +11,4 @@ add-type-spec =
     (λ c κs. search needs)
     (λ c κs. search needs)
     (λ c. search needs)
-    (λ c. cc))
+    (λ c. search type-added-free))

@@ -1,11 +1,10 @@
 -- `edits::delete_row` meets its contract. Assumes nothing.
-use Rattle.edits.specs.Edit.{deletedRow}
 use borrow.Author.Needs.{needs}
+use Rattle.edits.proofs.Does.{row-deleted-there}
 use Rattle.edits.proofs.delete_row.Statement.{statement}
 use Rattle.edits.proofs.delete_row.Tie as tie
 
 pub delete-row-spec : {M : Type 1} → statement M
-unfolding deletedRow
 delete-row-spec =
     tie.close
     (tie.spec
@@ -13,4 +12,4 @@ delete-row-spec =
     (λ c κs. search needs)
     (λ c κs. search needs)
     (λ c. search needs)
-    (λ c. cc))
+    (λ c. search row-deleted-there))

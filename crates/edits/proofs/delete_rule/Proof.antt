@@ -1,11 +1,10 @@
 -- `edits::delete_rule` meets its contract. Assumes nothing.
-use Rattle.edits.specs.Edit.{deletedRule}
 use borrow.Author.Needs.{needs}
+use Rattle.edits.proofs.Does.{rule-deleted-there}
 use Rattle.edits.proofs.delete_rule.Statement.{statement}
 use Rattle.edits.proofs.delete_rule.Tie as tie
 
 pub delete-rule-spec : {M : Type 1} → statement M
-unfolding deletedRule
 delete-rule-spec =
     tie.close
     (tie.spec
@@ -14,4 +13,4 @@ delete-rule-spec =
     (λ c κs. search needs)
     (λ c κs. search needs)
     (λ c. search needs)
-    (λ c. cc))
+    (λ c. search rule-deleted-there))

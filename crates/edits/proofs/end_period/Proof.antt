@@ -1,11 +1,10 @@
 -- `edits::end_period` meets its contract. Assumes nothing.
-use Rattle.edits.specs.Edit.{endedPeriod}
 use borrow.Author.Needs.{needs}
+use Rattle.edits.proofs.Does.{period-ended-there}
 use Rattle.edits.proofs.end_period.Statement.{statement}
 use Rattle.edits.proofs.end_period.Tie as tie
 
 pub end-period-spec : {M : Type 1} → statement M
-unfolding endedPeriod
 end-period-spec =
     tie.close
     (tie.spec
@@ -14,4 +13,4 @@ end-period-spec =
     (λ c κs. search needs)
     (λ c κs. search needs)
     (λ c. search needs)
-    (λ c. cc))
+    (λ c. search period-ended-there))

@@ -1,11 +1,10 @@
 -- `edits::end_type` meets its contract. Assumes nothing.
-use Rattle.edits.specs.Edit.{endedType}
 use borrow.Author.Needs.{needs}
+use Rattle.edits.proofs.Does.{type-ended-there}
 use Rattle.edits.proofs.end_type.Statement.{statement}
 use Rattle.edits.proofs.end_type.Tie as tie
 
 pub end-type-spec : {M : Type 1} → statement M
-unfolding endedType
 end-type-spec =
     tie.close
     (tie.spec
@@ -14,4 +13,4 @@ end-type-spec =
     (λ c κs. search needs)
     (λ c κs. search needs)
     (λ c. search needs)
-    (λ c. cc))
+    (λ c. search type-ended-there))
