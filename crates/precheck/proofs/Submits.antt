@@ -40,7 +40,7 @@ use Rattle.line.proofs.Readings.{place-letter}
 use Rattle.line.proofs.Padding.{padded-at}
 use Rattle.line.proofs.Callers as Read
 use Rattle.precheck.specs.Promise.{answerIn, loneAfter, Submitted}
-use Rattle.precheck.specs.Taking.{questionFrom, refusalOf, answerOf, bytesOf, Took}
+use Rattle.precheck.specs.Taking.{questionFrom, refusalOf, answerOf, bytesOf, Took, answerRead, bytesRead, answerBy, bytesBy, Answers}
 
 -- ---- the returns of take
 
@@ -266,3 +266,35 @@ module _ (b line : List ℕ) (l : Line) (s : sound b ≡ true) (a : Read.Asked l
 
 pub submitted : (b b′ line : List ℕ) (t : Bool) (l : Line) (x : Answer) → t ≡ sound b → not t ≡ false → l ≡ lineOf (reading line) → l .refusal ≡ 0 → Took b l x b′ → Submitted b line x b′
 submitted b b′ line t l x e f g h i = submitted-read b line l (sym e ∙ not-false t f) (Read.asked line g h) x b′ i
+
+-- ---- the returns of answer
+
+module _ (b line : List ℕ) (t : Bool) (x : Answer) where
+  pub answers-unsound : not t ≡ true → x ≡ Refused 1 → Answers t b line x b
+  unfolding answerBy bytesBy
+  answers-unsound f g =
+      let n = not-true t f in
+      record { answered = rw n g; bytes = rw n; promise = λ e. submitted-unsound b line t x e f g }
+
+  pub answers-unread : (l : Line) → not t ≡ false → l ≡ lineOf (reading line) → (l .refusal ≡ 0 → ⊥) → x ≡ Refused (l .refusal) → Answers t b line x b
+  unfolding answerBy bytesBy answerRead bytesRead
+  answers-unread l f g h i =
+      let n = not-false t f in
+      let z = ne-eqb (l .refusal) 0 h in
+      record { answered = rw (n, ← g, z) i; bytes = rw (n, ← g, z); promise = λ e. submitted-unread b line t l x e f g h i }
+
+  pub answers-read : (b′ : List ℕ) (l : Line) → not t ≡ false → l ≡ lineOf (reading line) → l .refusal ≡ 0 → Took b l x b′ → Answers t b line x b′
+  unfolding answerBy bytesBy answerRead bytesRead
+  answers-read b′ l f g h i =
+      let n = not-false t f in
+      let z = eq-eqb (l .refusal) 0 h in
+      record { answered = rw (n, ← g, z) (i .answered); bytes = rw (n, ← g, z) (i .bytes); promise = λ e. submitted b b′ line t l x e f g h i }
+
+-- ---- the return of submit
+
+module _ (b b′ line : List ℕ) (t : Bool) (x : Answer) where
+  pub submits : Answers t b line x b′ → t ≡ sound b → Submitted b line x b′
+  submits a e = a .promise e
+
+  pub exactly : Answers t b line x b′ → t ≡ sound b → Answers (sound b) b line x b′
+  exactly a e = rw (← e) a

@@ -2,8 +2,9 @@
 ghost use mathlib.Core.Path.{_≡_};
 ghost use Prim.Native.Nat.{_%_};
 ghost use Rattle.book.specs.Emptied.{Emptied};
+ghost use Rattle.book.specs.Sound.{sound};
 ghost use Rattle.precheck.specs.Promise.{Submitted};
-ghost use Rattle.precheck.specs.Taking.{questionFrom, Took};
+ghost use Rattle.precheck.specs.Taking.{questionFrom, Took, Answers};
 use book::is_sound;
 use edits::edit;
 use edits::refusal;
@@ -62,11 +63,11 @@ fn take(book: &mut [u8], l: Line) -> Answer
     Answer::Taken
 }
 
-// The answer to a line over a lent book; an accepted edit is stored in it.
-pub fn submit(book: &mut [u8], line: &[u8]) -> Answer
-    ensures { λ r. ⌜ Submitted (now (book .entry)) (now (line .entry)) r (now (book .exit)) ⌝ }
+// The answer to a line over a lent book that was found to be sound, or not to be; an accepted edit is stored in it.
+pub fn answer(book: &mut [u8], line: &[u8], sound: bool) -> Answer
+    ensures { λ r. ⌜ Answers sound (now (book .entry)) (now (line .entry)) r (now (book .exit)) ⌝ }
 {
-    if !is_sound(book) {
+    if !sound {
         return Answer::Refused(1);
     }
     let l = read_line(line);
@@ -74,4 +75,13 @@ pub fn submit(book: &mut [u8], line: &[u8]) -> Answer
         return Answer::Refused(l.refusal);
     }
     take(book, l)
+}
+
+// The answer to a line over a lent book; an accepted edit is stored in it.
+pub fn submit(book: &mut [u8], line: &[u8]) -> Answer
+    ensures { λ r. ⌜ Submitted (now (book .entry)) (now (line .entry)) r (now (book .exit)) ⌝ }
+    ensures { λ r. ⌜ Answers (sound (now (book .entry))) (now (book .entry)) (now (line .entry)) r (now (book .exit)) ⌝ }
+{
+    let sound = is_sound(book);
+    answer(book, line, sound)
 }

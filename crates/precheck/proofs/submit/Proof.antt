@@ -1,5 +1,5 @@
 -- `precheck::submit` meets its contract. Assumes nothing.
-use Rattle.precheck.proofs.Submits.{submitted-unsound, submitted-unread, submitted}
+use Rattle.precheck.proofs.Submits.{submits, exactly}
 use borrow.Author.Needs.{needs}
 use Rattle.precheck.proofs.submit.Statement.{statement}
 use Rattle.precheck.proofs.submit.Tie as tie
@@ -9,11 +9,6 @@ submit-spec =
     tie.close
     (tie.spec
     (λ c κs. search needs)
-    (λ c. search needs)
-    (λ c. search submitted-unsound)
     (λ c κs. search needs)
     (λ c. search needs)
-    (λ c. search (submitted-unread, c .if2 .taken))
-    (λ c κs. search needs)
-    (λ c. search needs)
-    (λ c. search submitted))
+    (λ c. search (submits, exactly)))

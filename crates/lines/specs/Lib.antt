@@ -1,0 +1,4 @@
+pub mod Ended
+pub mod Many
+pub mod Keeping
+pub mod Whole

@@ -1,0 +1,112 @@
+// A text of lines that comes in pieces: its ended lines are answered one by one over a lent book, and the line that is begun is kept for the next piece.
+ghost use mathlib.Core.Path.{_≡_};
+ghost use Prim.Native.Nat.{_+_, _-_, _≤_, min};
+ghost use lib.Dec.{leb};
+ghost use lib.ListN.{length};
+ghost use Rattle.lines.specs.Many.{laid, Put, Turn, Answered};
+ghost use Rattle.lines.specs.Keeping.{Keeps};
+use book::is_sound;
+use line::next_line;
+use line::print;
+use meaning::Answer;
+use precheck::answer;
+
+// How many bytes of a text were read, and how many of the answer space are written.
+pub struct Progress {
+    pub read: usize,
+    pub written: usize,
+}
+
+// Whether an answer of any length fits from an index on.
+fn has_room(out: &[u8], at: usize) -> bool
+    ensures { λ r. ⌜ r ≡ leb (at + 33) (length (now (out .entry))) ⌝ }
+{
+    if at <= out.len() {
+        return out.len() - at >= 33;
+    }
+    false
+}
+
+// Copies bytes to an index.
+fn lay(out: &mut [u8], at: usize, bytes: &[u8])
+    requires { ⌜ at + length (now bytes) ≤ length (now out) ⌝ }
+    ensures { λ _. ⌜ now (out .exit) ≡ laid (now (out .entry)) at (now (bytes .entry)) ⌝ }
+{
+    let mut i = 0;
+    while i < bytes.len() {
+        out[at + i] = bytes[i];
+        i += 1;
+    }
+}
+
+// Writes an answer to an index, ended by byte 10, and returns where the next one goes.
+fn put_answer(out: &mut [u8], at: usize, a: Answer) -> usize
+    requires { ⌜ at + 33 ≤ length (now out) ⌝ }
+    ensures { λ r. ⌜ Put (now (out .entry)) at a r (now (out .exit)) ⌝ }
+{
+    let p = print(a);
+    let n = p.len;
+    let bytes = p.bytes;
+    lay(out, at, &bytes[..n]);
+    out[at + n] = b'\n';
+    at + n + 1
+}
+
+// Answers a line over a book that was found to be sound, or not to be, and writes the answer to an index.
+fn answer_line(book: &mut [u8], line: &[u8], sound: bool, out: &mut [u8], at: usize) -> usize
+    requires { ⌜ at + 33 ≤ length (now out) ⌝ }
+    ensures { λ r. ⌜ Turn sound (now (book .entry)) (now (line .entry)) (now (out .entry)) at r (now (book .exit)) (now (out .exit)) ⌝ }
+{
+    let a = answer(book, line, sound);
+    put_answer(out, at, a)
+}
+
+// Answers the ended lines of a text one by one, as `submit` does, and writes the answers into a lent space. Whether the book is sound is found once: an
+// accepted edit leaves it sound. It stops where an answer might not fit, and says how far it came.
+pub fn submit_lines(book: &mut [u8], text: &[u8], out: &mut [u8]) -> Progress
+    ensures { λ r. ⌜ Answered (now (book .entry)) (now (text .entry)) (now (out .entry)) r (now (book .exit)) (now (out .exit)) ⌝ }
+{
+    let sound = is_sound(book);
+    let mut read: usize = 0;
+    let mut written: usize = 0;
+    while has_room(out, written) {
+        let line = next_line(text, read);
+        let end = line.end;
+        if end >= text.len() {
+            return Progress { read, written };
+        }
+        written = answer_line(book, &text[read..end], sound, out, written);
+        read = line.next;
+    }
+    Progress { read, written }
+}
+
+// ---- the begun line
+
+fn least(a: usize, b: usize) -> usize
+    ensures { λ r. ⌜ r ≡ min a b ⌝ }
+{
+    if a < b { a } else { b }
+}
+
+// The difference, 0 where there is none.
+fn minus(a: usize, b: usize) -> usize
+    ensures { λ r. ⌜ r ≡ a - b ⌝ }
+{
+    if a < b { 0 } else { a - b }
+}
+
+// Moves the bytes from an index up to another to the front of a text and returns how many they are: the line that is begun, which goes on with what
+// is read next. Of more than 81 bytes it keeps 81, since a line over 80 bytes is refused whatever follows.
+pub fn keep(text: &mut [u8], from: usize, to: usize) -> usize
+    ensures { λ r. ⌜ Keeps (now (text .entry)) from to r (now (text .exit)) ⌝ }
+{
+    let len = text.len();
+    let n = least(81, least(minus(to, from), minus(len, from)));
+    let mut i = 0;
+    while i < n {
+        text[i] = text[from + i];
+        i += 1;
+    }
+    n
+}
