@@ -1,3 +1,5 @@
 pub mod Ending
 pub mod Laying
+pub mod Steps
 pub mod Turning
+pub mod Whole

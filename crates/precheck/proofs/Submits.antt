@@ -298,3 +298,16 @@ module _ (b b′ line : List ℕ) (t : Bool) (x : Answer) where
 
   pub exactly : Answers t b line x b′ → t ≡ sound b → Answers (sound b) b line x b′
   exactly a e = rw (← e) a
+
+-- ---- what is answered to any line over any bytes keeps the promise
+
+pub keeps-promise : (b line : List ℕ) → Submitted b line (answerBy (sound b) b line) (bytesBy (sound b) b line)
+unfolding answerBy bytesBy answerRead bytesRead
+keeps-promise b line =
+    let l = lineOf (reading line) in
+    cases (sound b)
+    (λ s.
+    cases-eq (l .refusal) 0
+    (λ e. rw (s, eq-eqb (l .refusal) 0 e) (submitted b (bytesOf b l) line true l (answerOf b l) (sym s) refl refl e (record { answered = refl; bytes = refl })))
+    (λ e. rw (s, ne-eqb (l .refusal) 0 e) (submitted-unread b line true l (Refused (l .refusal)) (sym s) refl refl e refl)))
+    (λ s. rw s (submitted-unsound b line false (Refused 1) (sym s) refl refl))
