@@ -1,3 +1,4 @@
+pub mod Callers
 pub mod Ending
 pub mod Laying
 pub mod Steps
