@@ -1,0 +1,53 @@
+#!/usr/bin/env python3
+"""Writes what the gate runs the desk on: crates/desk/stdin, args, data/ and stdout. Standard input is the paper's example; each file of data/ is answered over a book emptied for it.
+The vectors' answers are an independent program's; those of edges.in are worked out from document 01, line by line below.
+Usage: desk_vectors.py DIR (the folder of the vectors; in the repository's root)"""
+import os
+import sys
+
+DESK = "crates/desk"
+NAMES = ["marked", "mixed-1", "full-quotas"]
+
+
+def vector(name, kind):
+    return open(f"{sys.argv[1]}/{name}.{kind}", "rb").read()
+
+
+def edges():
+    """Lines and their answers."""
+    yield b"", "F,2"  # 0 bytes
+    yield b"A" * 80, "F,3"  # 80 bytes are read: the first field isn't a letter of the table
+    yield b"A" * 81, "F,2"  # over 80
+    yield b"Q" * 200000, "F,2"  # longer than the desk's buffer
+    yield b"T,1,20160228,1,1,1,20160229,20991231", "K"  # 29 February 2016 is a day
+    yield b"T,1,20170228,2,1,1,20170229,20991231", "F,5"  # 29 February 2017 is none
+    yield b"T,1,20170228,2,1,1,20170301,20991231\r", "F,2"  # byte 13 is not allowed
+    yield b"\x00\xff,\x80;t,1", "F,2"  # noise
+    yield b"T", "F,4"
+    yield b"T,3,20170206,9,1,1,20170207,20991231", "K"
+    for sequence in range(1, 65):  # 64 rules of a depository
+        yield b"R,3,20170206,9,1,%d,P,4,20170207,20991231" % sequence, "K"
+    yield b"R,3,20170206,9,1,65,P,4,20170207,20991231", "F,10"
+    yield b"R,3,20170206,9,1,64,P,4,20170207,20991231", "F,8"  # a key that is held comes before the quota
+    yield b"T,4,20170206,9,1,1,20170207,20991231", "K"
+    yield b"R,4,20170206,9,1,65,P,4,20170207,20991231", "K"  # another depository's quota
+    yield b"", "F,2"
+    yield b"", "F,2"
+    yield b"Q,3,20170207,1,2,DELI,FREE,,EUR,11,20,30", "V,A,0,0,0,0,0,0"  # rules without rows; the last line has no byte 10
+
+
+def write(name, text):
+    with open(f"{DESK}/{name}", "wb") as f:
+        f.write(text)
+
+
+os.makedirs(f"{DESK}/data", exist_ok=True)
+lines = list(edges())
+write("data/edges.in", b"\n".join(line for line, _ in lines))
+write("data/none.in", b"")
+for name in NAMES:
+    write(f"data/{name}.in", vector(name, "in"))
+write("stdin", vector("paper-example", "in"))
+write("args", "".join(f"{a}\n" for a in ["-", "edges.in", "none.in"] + [f"{n}.in" for n in NAMES]).encode())
+answers = vector("paper-example", "out") + "".join(f"{a}\n" for _, a in lines).encode()
+write("stdout", answers + b"".join(vector(n, "out") for n in NAMES))
