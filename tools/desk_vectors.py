@@ -1,6 +1,6 @@
 #!/usr/bin/env python3
 """Writes what the gate runs the desk on: crates/desk/stdin, args, data/ and stdout. Standard input is the paper's example; each file of data/ is answered over a book emptied for it.
-The vectors' answers are an independent program's; those of edges.in are worked out from document 01, line by line below.
+The vectors' answers are an independent program's; those of edges.in are worked out from document 01, line by line below; lesson.in is docs/LESSON.md's.
 Usage: desk_vectors.py DIR (the folder of the vectors; in the repository's root)"""
 import os
 import sys
@@ -47,7 +47,9 @@ write("data/edges.in", b"\n".join(line for line, _ in lines))
 write("data/none.in", b"")
 for name in NAMES:
     write(f"data/{name}.in", vector(name, "in"))
+write("data/lesson.in", open("docs/lesson.lines", "rb").read())
 write("stdin", vector("paper-example", "in"))
-write("args", "".join(f"{a}\n" for a in ["-", "edges.in", "none.in"] + [f"{n}.in" for n in NAMES]).encode())
+write("args", "".join(f"{a}\n" for a in ["-", "edges.in", "none.in", "lesson.in"] + [f"{n}.in" for n in NAMES]).encode())
 answers = vector("paper-example", "out") + "".join(f"{a}\n" for _, a in lines).encode()
+answers += open("docs/lesson.answers", "rb").read()
 write("stdout", answers + b"".join(vector(n, "out") for n in NAMES))
