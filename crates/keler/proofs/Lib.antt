@@ -1,0 +1,6 @@
+pub mod Texts
+pub mod Tables
+pub mod SetLines
+pub mod Sizes
+pub mod Stepping
+pub mod Callers

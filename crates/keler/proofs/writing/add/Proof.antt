@@ -1,0 +1,14 @@
+-- `keler::writing::add` meets its contract.
+use Rattle.keler.proofs.Texts.{no-room, some-room}
+use borrow.Author.Needs.{needs}
+use Rattle.keler.proofs.writing.add.Statement.{statement}
+use Rattle.keler.proofs.writing.add.Tie as tie
+
+pub add-spec : {M : Type 1} → statement M
+add-spec =
+    tie.close
+    (tie.spec
+    (λ c. search no-room)
+    (λ c. search needs)
+    (λ c. search needs)
+    (λ c. search some-room))

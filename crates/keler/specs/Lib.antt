@@ -1,0 +1,4 @@
+pub mod Tables
+pub mod Written
+pub mod Lines
+pub mod Step
