@@ -86,16 +86,9 @@ pub fn answer_input(fd: i32) {
     answer_all(fd, &mut book, &mut text, &mut out);
 }
 
-fn is_dash(path: &[u8]) -> bool {
-    if path.len() == 1 {
-        return path[0] == b'-';
-    }
-    false
-}
-
 // Answers a file, or standard input for '-'.
 pub fn answer_file(path: &[u8]) {
-    if is_dash(path) {
+    if line::same(path, b"-") {
         answer_input(libc::STDIN_FILENO);
         return;
     }

@@ -146,7 +146,7 @@ fn count(s: &[u8]) -> usize
 }
 
 // Whether two words are the same.
-fn same(a: &[u8], b: &[u8]) -> bool
+pub fn same(a: &[u8], b: &[u8]) -> bool
     ensures { λ r. ⌜ r ≡ same (now (a .entry)) (now (b .entry)) ⌝ }
 {
     if a.len() != b.len() {

@@ -1,0 +1,18 @@
+-- `desk::set::arguments` meets its contract. Assumes nothing.
+use mathlib.Core.Path.{sym}
+use native.Mathlib.Omega.{arith}
+use lib.Seq.{length-take-le}
+use borrow.Author.Needs.{needs}
+use Rattle.desk.proofs.set.arguments.Statement.{statement}
+use Rattle.desk.proofs.set.arguments.Tie as tie
+
+pub arguments-spec : {M : Type 1} → statement M
+arguments-spec =
+    tie.close
+    (tie.spec
+    (λ c. search needs)
+    (λ c κs. search needs)
+    (λ c. search needs)
+    (λ c. sym (length-take-le _ _ (omega arith)))
+    (λ c κs. search needs)
+    (λ c. search needs))

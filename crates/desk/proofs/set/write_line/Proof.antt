@@ -1,0 +1,18 @@
+-- `desk::set::write_line` meets its contract. Assumes nothing.
+use mathlib.Core.Path.{sym}
+use native.Mathlib.Omega.{arith}
+use lib.Seq.{length-take-le}
+use borrow.Author.Needs.{needs}
+use Rattle.desk.proofs.set.write_line.Statement.{statement}
+use Rattle.desk.proofs.set.write_line.Tie as tie
+
+pub write-line-spec : {M : Type 1} → statement M
+write-line-spec =
+    tie.close
+    (tie.spec
+    (λ c. search needs)
+    (λ c. sym (length-take-le _ _ (omega arith)))
+    (λ c κs. search needs)
+    (λ c. search needs)
+    (λ c κs. search needs)
+    (λ c. search needs))
