@@ -7,3 +7,4 @@ pub mod Readings
 pub mod Callers
 pub mod Printings
 pub mod Splitting
+pub mod Walk

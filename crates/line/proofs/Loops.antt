@@ -14,12 +14,7 @@ use Rattle.tables.specs.Count.{every}
 use Rattle.meaning.specs.Text.{place, same, decimal, word}
 use Rattle.meaning.specs.Fields.{isComma, before, fields}
 use Rattle.meaning.specs.Forms.{lettersText, letterPlace}
-use Rattle.line.specs.Values.{more}
-use Rattle.line.specs.Parts.{Cuts}
-
--- the next element, and what is left after it
-pub next : (l : List ℕ) (i : ℕ) → i < length l → drop i l ≡ getD l i 0 ∷ drop (i + 1) l
-next l i h = rw add-one (drop-cons l i 0 h)
+use Rattle.fields.proofs.Cutting.{next, first-field}
 
 pub past-end : (l : List ℕ) (i : ℕ) → length l ≤ i → 0 ≡ getD l i 0
 past-end l i h = sym (List·getD-eq-default l 0 h)
@@ -39,69 +34,12 @@ pub every-end : {p : ℕ → Bool} {l : List ℕ} {t : Bool} {i : ℕ} → Every
 unfolding every
 every-end {l = l} {t} r h = sym (and-true t) ∙ rw (drop-of-length-le l h) at (r .left)
 
--- ---- the place of a byte
-
-pub record FoundTo (c : ℕ) (l : List ℕ) (at i : ℕ) : Type 0 where
-  pub left : i + place c (drop i l) ≡ at + place c (drop at l)
-
-module _ {c : ℕ} {l : List ℕ} {at i : ℕ} where
-  pub found-next : FoundTo c l at i → i < length l → (getD l i 0 ≡ c → ⊥) → FoundTo c l at (i + 1)
-  found-next r h e =
-      let s : place c (drop i l) ≡ place c (drop (i + 1) l) + 1 = rw (next l i h, ne-eqb _ _ e) (sym (add-one _)) in
-      record { left = omega (arith, r .left) }
-
-  pub found-here : FoundTo c l at i → i < length l → getD l i 0 ≡ c → i ≡ at + place c (drop at l)
-  found-here r h e = let s : place c (drop i l) ≡ 0 = rw (next l i h, eq-eqb _ _ e) in omega (arith, r .left)
-
-  pub found-end : FoundTo c l at i → length l ≤ i → i ≡ at + place c (drop at l)
-  found-end r h = let s : place c (drop i l) ≡ 0 = rw (drop-of-length-le l h) in omega (arith, r .left)
-
-pub place-bound : (c : ℕ) (l : List ℕ) → place c l ≤ length l
-place-bound c [] = omega arith
-place-bound c (x ∷ xs) = go (eqb x c) (place-bound c xs)
-  where
-    go : (b : Bool) → place c xs ≤ length xs → cond b 0 (suc (place c xs)) ≤ suc (length xs)
-    go true h = omega arith
-    go false h = omega arith
-
 -- the place in the table of a field that is one letter, or 10
 pub one-letter : (f : List ℕ) {c n : ℕ} → length f ≡ 1 → c ≡ getD f 0 0 → n ≡ place c lettersText → n ≡ letterPlace f
 one-letter f e p q = rw (eq-eqb (length f) 1 e, ← p) q
 
 pub not-one-letter : (f : List ℕ) → (length f ≡ 1 → ⊥) → 10 ≡ letterPlace f
 not-one-letter f e = rw (ne-eqb (length f) 1 e)
-
--- ---- the fields
-
--- the first field, and those after it
-pub first-field : (l : List ℕ) → fields l ≡ take (place 44 l) l ∷ more (drop (place 44 l) l)
-unfolding fields more
-first-field [] = refl
-first-field (c ∷ cs) = go (isComma c) (first-field cs)
-  where
-    n : ℕ
-    n = place 44 cs
-
-    go : (b : Bool) → fields cs ≡ take n cs ∷ more (drop n cs)
-        → before b c (fields cs) ≡ take (cond b 0 (suc n)) (c ∷ cs) ∷ more (drop (cond b 0 (suc n)) (c ∷ cs))
-    go true e = refl
-    go false e = rw e
-
--- the field that begins at an index ends at the next comma or the end, e
-pub cuts : (l : List ℕ) (at : ℕ) {e : ℕ} → e ≡ at + place 44 (drop at l) → Cuts l at e
-cuts l at {e} q = record {
-  whole = q;
-  field =
-      let n : e - at ≡ place 44 (drop at l) = omega arith in
-      rw (n, q) (first-field (drop at l) ∙ rw drop-drop);
-  from = omega arith;
-  inside = λ h. omega (arith, place-bound 44 (drop at l), length-drop at l);
-}
-
--- the fields after the comma at i
-pub next-field : (l : List ℕ) (i e : ℕ) → i < length l → Cuts l (i + 1) e → more (drop i l) ≡ take (e - (i + 1)) (drop (i + 1) l) ∷ more (drop e l)
-unfolding more
-next-field l i e h q = rw (next l i h) (q .field)
 
 -- ---- the count of fields
 

@@ -15,12 +15,12 @@ use Rattle.meaning.specs.Fields.{allowed, wellMade, within, fields}
 use Rattle.meaning.specs.Forms.{Letter, letterQ, letterAt, letterPlace}
 use Rattle.meaning.specs.Records.{commandOf}
 use Rattle.meaning.specs.Reading.{refused, wrong, readAll, byNumbers, byFields, byLetter, reading}
-use Rattle.line.specs.Values.{more}
+use Rattle.fields.specs.Cut.{more}
 use Rattle.line.specs.Table.{letterList, letter, placeOf, formsAt, Counted}
 use Rattle.line.specs.Line.{inRow, valuesOf, lineOf, numbersLine}
 use Rattle.line.specs.declared.reading.Values.{Values}
 use Rattle.line.specs.declared.reading.Line.{Line}
-use Rattle.line.proofs.Loops.{next, first-field}
+use Rattle.fields.proofs.Cutting.{next, first-field}
 use Rattle.line.proofs.TableRule.{entry}
 use Rattle.line.proofs.Padding.{command-padded}
 

@@ -11,7 +11,7 @@ use Rattle.tables.proofs.Counts.{cases}
 use Rattle.meaning.specs.Text.{place}
 use Rattle.meaning.specs.Desk.{linesOf}
 use Rattle.line.specs.Parts.{spanFrom, Splits}
-use Rattle.line.proofs.Loops.{next, place-bound}
+use Rattle.fields.proofs.Cutting.{next, place-bound}
 
 first-line : (c : ℕ) (cs : List ℕ) → linesOf (c ∷ cs) ≡ take (place 10 (c ∷ cs)) (c ∷ cs) ∷ linesOf (drop (suc (place 10 (c ∷ cs))) (c ∷ cs))
 unfolding linesOf

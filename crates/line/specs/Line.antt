@@ -3,7 +3,8 @@ use Prim.Native.Nat.{ℕ, zero, suc}
 use mathlib.Core.Bool.{cond}
 use mathlib.Core.List.{List, [], _∷_}
 use mathlib.Core.Option.{Option, some, none}
-use Rattle.meaning.specs.Forms.{Letter}
+use lib.ListN.{set}
+use Rattle.meaning.specs.Forms.{Form, Letter, read}
 use Rattle.meaning.specs.Records.{commandOf}
 use Rattle.meaning.specs.Reading.{Reading, refused, asks, wrong}
 use Rattle.line.specs.Table.{placeOf}
@@ -21,6 +22,18 @@ unfoldable pub inRow : Option (List ℕ) → Option (List ℕ)
 unfolding padded
 inRow none = none
 inRow (some ns) = some (padded 16 ns)
+
+-- the number of the first of some fields, by a form; none where there is no field
+unfoldable pub firstRead : Form → List (List ℕ) → Option ℕ
+unfolding read
+firstRead φ [] = none
+firstRead φ (f ∷ fs) = read φ f
+
+-- a row with a number in place k; none where one of the two is none
+abbrev pub putAt : ℕ → Option ℕ → Option (List ℕ) → Option (List ℕ)
+putAt k none row = none
+putAt k (some n) none = none
+putAt k (some n) (some row) = some (set row k n)
 
 abbrev pub valuesOf : Values → Option (List ℕ)
 valuesOf v = cond (v .good) (some (v .values)) none

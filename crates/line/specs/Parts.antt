@@ -1,4 +1,4 @@
--- The field of a line, and the line of a text, that begin at an index. Assumes nothing.
+-- The line of a text that begins at an index. Assumes nothing.
 use Prim.Native.Nat.{ℕ, _+_, _-_, _≤_, _<_}
 use mathlib.Core.Path.{_≡_}
 use mathlib.Core.Bool.{cond}
@@ -6,26 +6,8 @@ use mathlib.Core.List.{List, [], _∷_}
 use lib.Dec.{ltb}
 use lib.ListN.{length, take, drop}
 use Rattle.meaning.specs.Text.{place}
-use Rattle.meaning.specs.Fields.{fields}
 use Rattle.meaning.specs.Desk.{linesOf}
-use Rattle.line.specs.Values.{more}
 use Rattle.line.specs.declared.lines.Span.{Span}
-
--- ---- the field of a line
-
--- where it ends: at the first comma, or at the line's end
-abbrev pub fieldEnd : List ℕ → ℕ → ℕ
-fieldEnd line at = at + place 44 (drop at line)
-
--- the field that begins at an index ends at r, and what that is to the meaning's fields
-pub record Cuts (line : List ℕ) (at r : ℕ) : Type 0 where
-  pub whole : r ≡ fieldEnd line at
-  -- the fields from there on are this one and those after the comma
-  pub field : fields (drop at line) ≡ take (r - at) (drop at line) ∷ more (drop r line)
-  pub from : at ≤ r
-  pub inside : at ≤ length line → r ≤ length line
-
--- ---- the line of a text
 
 -- where it ends: at the first byte 10, or at the text's end
 abbrev pub lineEnd : List ℕ → ℕ → ℕ

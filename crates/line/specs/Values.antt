@@ -1,10 +1,9 @@
 -- What the code's bytes and values are in the meaning. Assumes nothing.
 use Prim.Native.Nat.{ℕ}
 use mathlib.Core.Bool.{Bool, cond}
-use mathlib.Core.List.{List, [], _∷_}
 use mathlib.Core.Option.{Option, some, none}
 use lib.Dec.{eqb}
-use Rattle.meaning.specs.Fields.{isDigit, isCapital, allowed, fields}
+use Rattle.meaning.specs.Fields.{isDigit, isCapital, allowed}
 use Rattle.line.specs.declared.forms.Value.{Value}
 use Rattle.line.specs.declared.forms.Value.the-variants.{Is, Wrong}
 
@@ -16,9 +15,3 @@ belongs class c = cond (eqb class 0) (isDigit c) (cond (eqb class 1) (isCapital 
 abbrev pub valueOf : Value → Option ℕ
 valueOf (Is n) = some n
 valueOf Wrong = none
-
--- the fields after a comma, which is the first byte; none where the line has ended
-unfoldable pub more : List ℕ → List (List ℕ)
-unfolding fields
-more [] = []
-more (c ∷ cs) = fields cs

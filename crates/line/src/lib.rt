@@ -4,20 +4,21 @@ mod lines;
 mod printing;
 mod reading;
 
+pub use fields::cut;
+use fields::find;
 pub use forms::is_day;
 pub use lines::Span;
 pub use lines::next_line;
 pub use printing::Printed;
 pub use printing::print;
 pub use reading::Line;
-pub use reading::cut;
 pub use reading::read_line;
-ghost use Prim.Native.Nat.{_+_, _<_};
+ghost use Prim.Native.Nat.{_<_};
 ghost use mathlib.Core.Path.{_≡_};
 ghost use mathlib.Core.Bool.{_&&_, _||_, cond};
-ghost use lib.ListN.{getD, drop, length};
+ghost use lib.ListN.{getD, length};
 ghost use Rattle.tables.specs.Count.{every};
-ghost use Rattle.meaning.specs.Text.{place, same};
+ghost use Rattle.meaning.specs.Text.{same};
 ghost use Rattle.meaning.specs.Fields.{within, isDigit, isCapital, allowed, fields};
 ghost use Rattle.line.specs.Values.{belongs};
 
@@ -114,20 +115,6 @@ fn every(class: u8, s: &[u8]) -> bool
         i += 1;
     }
     good
-}
-
-// The index of the first c from an index on; the end, where there is none.
-fn find(s: &[u8], at: usize, c: u8) -> usize
-    ensures { λ r. ⌜ r ≡ at + place c (drop at (now (s .entry))) ⌝ }
-{
-    let mut i = at;
-    while i < s.len() {
-        if s[i] == c {
-            return i;
-        }
-        i += 1;
-    }
-    i
 }
 
 // How many fields a line has.

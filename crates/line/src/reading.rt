@@ -26,19 +26,20 @@ use crate::forms::TY;
 use crate::forms::Value;
 use crate::forms::field_value;
 use crate::or;
+use fields::LineReader;
 ghost use Prim.Native.Nat.{_+_, _<_};
 ghost use mathlib.Core.Path.{_≡_};
 ghost use mathlib.Core.Option.{some};
-ghost use lib.ListN.{getD, drop, length};
+ghost use lib.ListN.{getD, drop, length, replicate};
 ghost use Rattle.meaning.specs.Text.{place};
 ghost use Rattle.meaning.specs.Fields.{wellMade, fields};
 ghost use Rattle.meaning.specs.Forms.{csdForm, letterPlace};
 ghost use Rattle.meaning.specs.Records.{commandOf};
 ghost use Rattle.meaning.specs.Reading.{readAll, wrong, refused, byLetter, byFields, reading};
-ghost use Rattle.line.specs.Values.{more};
+ghost use Rattle.line.specs.Values.{valueOf};
+ghost use Rattle.fields.specs.Cut.{more, Passes};
 ghost use Rattle.line.specs.Table.{formAt, formsAt, Counted, letter as letterOfPlace};
-ghost use Rattle.line.specs.Parts.{Cuts};
-ghost use Rattle.line.specs.Line.{inRow, valuesOf, numbersLine, lineOf};
+ghost use Rattle.line.specs.Line.{firstRead, putAt, inRow, valuesOf, numbersLine, lineOf};
 
 // ---- the table of letters
 
@@ -123,46 +124,81 @@ fn letter_place(f: &[u8]) -> u8
 
 // ---- the fields of a line
 
-// The end of the field that begins at an index: the next comma, or the end of the line. Past that end it is the index itself.
-pub fn cut(line: &[u8], at: usize) -> usize
-    ensures { λ r. ⌜ Cuts (now (line .entry)) at r ⌝ }
-{
-    find(line, at, b',')
-}
-
 // The numbers of a line's fields, if each is of its form.
 struct Values {
     good: bool,
     values: [u32; 16],
 }
 
-// The numbers of the fields after a comma.
+// A row of zeros.
+fn no_values() -> Values
+    ensures { λ r. ⌜ valuesOf r ≡ some (replicate 16 0) ⌝ }
+{
+    Values {
+        good: true,
+        values: [0u32; 16],
+    }
+}
+
+// The number of the field after a comma, which ends at an index; wrong where the line has ended.
+fn value_after(line: &[u8], comma: usize, end: usize, form: u8) -> Value
+    requires { ⌜ Passes (now line) comma end ⌝ }
+    ensures { λ r. ⌜ valueOf r ≡ firstRead (formAt form) (more (drop comma (now (line .entry)))) ⌝ }
+{
+    if comma >= line.len() {
+        return Value::Wrong;
+    }
+    let at = comma + 1;
+    field_value(&line[at..end], form)
+}
+
+// The row with a field's number in its place.
+fn with_value(row: Values, k: usize, v: Value) -> Values
+    requires { ⌜ k < 15 ⌝ }
+    ensures { λ r. ⌜ valuesOf r ≡ putAt k (valueOf v) (valuesOf row) ⌝ }
+{
+    let good = row.good;
+    let mut values = row.values;
+    match v {
+        Value::Is(x) => {
+            values[k] = x;
+            Values { good, values }
+        }
+        Value::Wrong => Values {
+            good: false,
+            values,
+        },
+    }
+}
+
+// The row with the number of the field after a comma in the place of the letter's field k.
+fn with_field(row: Values, line: &[u8], comma: usize, end: usize, letter: u8, k: usize) -> Values
+    requires { ⌜ (letter < 10) × ((k < 15) × Passes (now line) comma end) ⌝ }
+    ensures { λ r. ⌜ valuesOf r ≡ putAt k (firstRead (getD (formsAt letter) k csdForm) (more (drop comma (now (line .entry))))) (valuesOf row) ⌝ }
+{
+    with_value(
+        row,
+        k,
+        value_after(line, comma, end, form_number(letter, k)),
+    )
+}
+
+// The numbers of the fields after a comma. The reader moves from field to field.
 fn read_values(line: &[u8], letter: u8, start: usize) -> Values
     requires { ⌜ letter < 10 ⌝ }
     ensures { λ r. ⌜ valuesOf r ≡ inRow (readAll (formsAt letter) (more (drop start (now (line .entry))))) ⌝ }
 {
-    let mut values = [0u32; 16];
-    let mut comma = start;
     let n = form_count(letter);
-    for k in 0..n {
-        if comma >= line.len() {
-            return Values {
-                good: false,
-                values,
-            };
-        }
-        let at = comma + 1;
-        comma = cut(line, at);
-        let v = field_value(&line[at..comma], form_number(letter, k));
-        match v {
-            Value::Is(x) => values[k] = x,
-            Value::Wrong => return Values {
-                good: false,
-                values,
-            },
-        }
+    let mut row = no_values();
+    let mut reader = LineReader::new(line, start);
+    let mut k = 0;
+    while k < n {
+        let next = reader.next();
+        row = with_field(row, line, reader.at, next.at, letter, k);
+        reader = next;
+        k += 1;
     }
-    Values { good: true, values }
+    row
 }
 
 // What no single field shows of refusal 5: processing is 3 with object 2, first is after last, or a question's movement and payment are

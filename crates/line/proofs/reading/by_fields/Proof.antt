@@ -2,7 +2,7 @@
 use mathlib.Core.Path.{sym}
 use native.Mathlib.Omega.{arith}
 use lib.Seq.{length-take-le}
-use Rattle.line.proofs.Loops.{place-bound}
+use Rattle.fields.proofs.Cutting.{place-bound}
 use Rattle.line.proofs.Readings.{some-letter, no-letter}
 use borrow.Author.Needs.{needs}
 use Rattle.line.proofs.reading.by_fields.Statement.{statement}

@@ -1,7 +1,8 @@
 -- `line::reading::letter_place` meets its contract.
 use native.Mathlib.Omega.{arith}
 use Rattle.meaning.specs.Forms.{lettersText}
-use Rattle.line.proofs.Loops.{place-bound, one-letter, not-one-letter}
+use Rattle.fields.proofs.Cutting.{place-bound}
+use Rattle.line.proofs.Loops.{one-letter, not-one-letter}
 use borrow.Author.Needs.{needs}
 use Rattle.line.proofs.reading.letter_place.Statement.{statement}
 use Rattle.line.proofs.reading.letter_place.Tie as tie
