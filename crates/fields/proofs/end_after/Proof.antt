@@ -1,4 +1,5 @@
 -- `fields::end_after` meets its contract.
+use native.Mathlib.Omega.{arith}
 use borrow.Author.Needs.{needs}
 use Rattle.fields.proofs.Cutting.{passes, passes-none}
 use Rattle.fields.proofs.end_after.Statement.{statement}
@@ -8,7 +9,7 @@ pub end-after-spec : {M : Type 1} → statement M
 end-after-spec =
     tie.close
     (tie.spec
-    (λ c. search passes-none)
+    (λ c. passes-none _ _ (omega arith))
     (λ c. search needs)
     (λ c κs. search needs)
     (λ c. search passes))
