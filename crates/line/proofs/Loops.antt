@@ -1,18 +1,17 @@
 -- What a loop over indices has to do with the lists of the meaning. Each loop has a record, its invariant: what was found before index i, with what is left
 -- from i on, gives the whole. Its laws take just what the code knows at that place, so that `search LAW` closes the need.
 use mathlib.Core.Path.{_≡_, refl, ap, sym, _∙_}
-use mathlib.Core.Bool.{Bool, true, false, cond, _&&_, and-assoc, and-true}
+use mathlib.Core.Bool.{Bool, true, false, _&&_, and-assoc, and-true}
 use mathlib.Core.List.{List, [], _∷_, foldl}
 use Prim.Native.Nat.{ℕ, zero, suc, _+_, _*_, _-_, _≤_, _<_, min}
 use native.Mathlib.Numerals.{add-one}
 use native.Mathlib.Omega.{arith}
 use lib.Dec.{eqb, lit≤}
 use borrow.Author.Tests.{eq-eqb, ne-eqb}
-use lib.ListN.{length, getD, take, drop, length-drop, drop-of-length-le, List·getD-eq-default}
-use lib.Seq.{drop-cons, drop-drop}
+use lib.ListN.{length, getD, drop, drop-of-length-le, List·getD-eq-default}
 use Rattle.tables.specs.Count.{every}
 use Rattle.meaning.specs.Text.{place, same, decimal, word}
-use Rattle.meaning.specs.Fields.{isComma, before, fields}
+use Rattle.meaning.specs.Fields.{before, fields}
 use Rattle.meaning.specs.Forms.{lettersText, letterPlace}
 use Rattle.fields.proofs.Cutting.{next, first-field}
 

@@ -19,7 +19,7 @@ use Rattle.line.specs.Table.{formsAt, Counted}
 use Rattle.line.specs.Line.{firstRead, putAt, inRow}
 use Rattle.line.proofs.Padding.{sets-padded}
 use Rattle.line.specs.declared.forms.Value.{Value}
-use Rattle.line.specs.declared.forms.Value.the-variants.{Is, Wrong}
+use Rattle.line.specs.declared.forms.Value.the-variants.{Is}
 
 -- ---- one field
 
