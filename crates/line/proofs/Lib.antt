@@ -5,6 +5,4 @@ pub mod TableRule
 pub mod Rows
 pub mod Readings
 pub mod Callers
-pub mod Printings
-pub mod Splitting
 pub mod Walk

@@ -1,16 +1,10 @@
-// Reads a line of bytes, prints an answer, and parts a text into lines, as document 01 says. Here are the functions over bytes that its parts share.
+// Reads a line of bytes, as document 01 says. Here are the functions over bytes that its parts share.
 mod forms;
-mod lines;
-mod printing;
 mod reading;
 
 pub use fields::cut;
 use fields::find;
 pub use forms::is_day;
-pub use lines::Span;
-pub use lines::next_line;
-pub use printing::Printed;
-pub use printing::print;
 pub use reading::Line;
 pub use reading::read_line;
 ghost use Prim.Native.Nat.{_<_};

@@ -16,7 +16,7 @@ fn show(line: &[u8]) {
 fn show_lines(text: &[u8]) {
     let mut at: usize = 0;
     while at < text.len() {
-        let line = line::next_line(text, at);
+        let line = text::next_line(text, at);
         let end = line.end;
         show(&text[at..end]);
         at = line.next;
@@ -24,7 +24,7 @@ fn show_lines(text: &[u8]) {
 }
 
 fn show_answer(answer: Answer) {
-    let p = line::print(answer);
+    let p = text::print(answer);
     let n = p.len;
     let bytes = p.bytes;
     io::write_all(STDOUT_FILENO, &bytes[..n]);

@@ -13,10 +13,10 @@ use Rattle.meaning.specs.Text.{place}
 use Rattle.meaning.specs.Printing.{printed}
 use Rattle.meaning.specs.declared.Answer.{Answer}
 use Rattle.book.specs.Sound.{sound}
-use Rattle.line.specs.Parts.{spanFrom, Splits}
-use Rattle.line.specs.Printed.{Prints}
-use Rattle.line.specs.declared.lines.Span.{Span}
-use Rattle.line.specs.declared.printing.Printed.{Printed}
+use Rattle.text.specs.Parts.{spanFrom, Splits}
+use Rattle.text.specs.Printed.{Prints}
+use Rattle.text.specs.declared.lines.Span.{Span}
+use Rattle.text.specs.declared.printing.Printed.{Printed}
 use Rattle.precheck.specs.Taking.{bytesBy, Answers}
 use Rattle.lines.specs.Ended.{ended}
 use Rattle.lines.specs.Many.{laid, writtenAs, Standing, room, one, many, standing, Put, Turn, Answered}

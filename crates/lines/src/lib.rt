@@ -6,10 +6,10 @@ ghost use lib.ListN.{length};
 ghost use Rattle.lines.specs.Many.{laid, Put, Turn, Answered};
 ghost use Rattle.lines.specs.Keeping.{Keeps};
 use book::is_sound;
-use line::next_line;
-use line::print;
 use meaning::Answer;
 use precheck::answer;
+use text::next_line;
+use text::print;
 
 // How many bytes of a text were read, and how many of the answer space are written.
 pub struct Progress {

@@ -14,7 +14,7 @@ fn text_space() -> [u8; 600000] {
 }
 
 fn show(answer: Answer) {
-    let p = line::print(answer);
+    let p = text::print(answer);
     let n = p.len;
     let bytes = p.bytes;
     io::write_all(STDOUT_FILENO, &bytes[..n]);
@@ -25,7 +25,7 @@ fn show(answer: Answer) {
 fn answer_lines(book: &mut [u8], text: &[u8]) {
     let mut at: usize = 0;
     while at < text.len() {
-        let line = line::next_line(text, at);
+        let line = text::next_line(text, at);
         let end = line.end;
         show(precheck::submit(book, &text[at..end]));
         at = line.next;

@@ -1,6 +1,6 @@
 // Parts a text into lines.
-use crate::find;
-ghost use Rattle.line.specs.Parts.{Splits};
+use fields::find;
+ghost use Rattle.text.specs.Parts.{Splits};
 
 // The line that begins at an index: where it ends, and where the next one begins.
 pub struct Span {

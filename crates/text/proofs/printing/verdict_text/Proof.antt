@@ -1,8 +1,8 @@
--- `line::printing::verdict_text` meets its contract.
-use Rattle.line.proofs.Printings.{rejected, accepted}
+-- `text::printing::verdict_text` meets its contract.
+use Rattle.text.proofs.Printings.{rejected, accepted}
 use borrow.Author.Needs.{needs}
-use Rattle.line.proofs.printing.verdict_text.Statement.{statement}
-use Rattle.line.proofs.printing.verdict_text.Tie as tie
+use Rattle.text.proofs.printing.verdict_text.Statement.{statement}
+use Rattle.text.proofs.printing.verdict_text.Tie as tie
 
 pub verdict-text-spec : {M : Type 1} → statement M
 verdict-text-spec =

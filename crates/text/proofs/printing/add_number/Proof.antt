@@ -1,8 +1,8 @@
--- `line::printing::add_number` meets its contract.
-use Rattle.line.proofs.Printings.{one-digit, two-digits, three-digits}
+-- `text::printing::add_number` meets its contract.
+use Rattle.text.proofs.Printings.{one-digit, two-digits, three-digits}
 use borrow.Author.Needs.{needs}
-use Rattle.line.proofs.printing.add_number.Statement.{statement}
-use Rattle.line.proofs.printing.add_number.Tie as tie
+use Rattle.text.proofs.printing.add_number.Statement.{statement}
+use Rattle.text.proofs.printing.add_number.Tie as tie
 
 pub add-number-spec : {M : Type 1} → statement M
 add-number-spec =

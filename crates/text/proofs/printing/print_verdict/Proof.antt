@@ -1,8 +1,8 @@
--- `line::printing::print_verdict` meets its contract.
-use Rattle.line.proofs.Printings.{verdict}
+-- `text::printing::print_verdict` meets its contract.
+use Rattle.text.proofs.Printings.{verdict}
 use borrow.Author.Needs.{needs}
-use Rattle.line.proofs.printing.print_verdict.Statement.{statement}
-use Rattle.line.proofs.printing.print_verdict.Tie as tie
+use Rattle.text.proofs.printing.print_verdict.Statement.{statement}
+use Rattle.text.proofs.printing.print_verdict.Tie as tie
 
 pub print-verdict-spec : {M : Type 1} → statement M
 print-verdict-spec =

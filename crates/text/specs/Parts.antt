@@ -7,7 +7,7 @@ use lib.Dec.{ltb}
 use lib.ListN.{length, take, drop}
 use Rattle.meaning.specs.Text.{place}
 use Rattle.meaning.specs.Desk.{linesOf}
-use Rattle.line.specs.declared.lines.Span.{Span}
+use Rattle.text.specs.declared.lines.Span.{Span}
 
 -- where it ends: at the first byte 10, or at the text's end
 abbrev pub lineEnd : List ℕ → ℕ → ℕ

@@ -10,7 +10,7 @@ use borrow.Author.Tests.{lt-ltb, le-ltb}
 use Rattle.tables.proofs.Counts.{cases}
 use Rattle.meaning.specs.Text.{place}
 use Rattle.meaning.specs.Desk.{linesOf}
-use Rattle.line.specs.Parts.{spanFrom, Splits}
+use Rattle.text.specs.Parts.{spanFrom, Splits}
 use Rattle.fields.proofs.Cutting.{next, place-bound}
 
 first-line : (c : ℕ) (cs : List ℕ) → linesOf (c ∷ cs) ≡ take (place 10 (c ∷ cs)) (c ∷ cs) ∷ linesOf (drop (suc (place 10 (c ∷ cs))) (c ∷ cs))

@@ -5,7 +5,7 @@ ghost use mathlib.Core.Path.{_≡_};
 ghost use mathlib.Core.List.{[]};
 ghost use Rattle.meaning.specs.Printing.{verdictText};
 ghost use Rattle.meaning.specs.declared.Answer.the-variants.{Judged};
-ghost use Rattle.line.specs.Printed.{printedAs, added, Numbered, Prints};
+ghost use Rattle.text.specs.Printed.{printedAs, added, Numbered, Prints};
 
 // A printed answer: its bytes, zeros after them, and how many they are.
 pub struct Printed {

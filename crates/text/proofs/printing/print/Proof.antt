@@ -1,8 +1,8 @@
--- `line::printing::print` meets its contract.
-use Rattle.line.proofs.Printings.{taken, refusal, judged}
+-- `text::printing::print` meets its contract.
+use Rattle.text.proofs.Printings.{taken, refusal, judged}
 use borrow.Author.Needs.{needs}
-use Rattle.line.proofs.printing.print.Statement.{statement}
-use Rattle.line.proofs.printing.print.Tie as tie
+use Rattle.text.proofs.printing.print.Statement.{statement}
+use Rattle.text.proofs.printing.print.Tie as tie
 
 pub print-spec : {M : Type 1} → statement M
 print-spec =

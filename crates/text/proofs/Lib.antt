@@ -1,0 +1,2 @@
+pub mod Printings
+pub mod Splitting

@@ -1,0 +1,8 @@
+// Prints an answer, and parts a text into lines (document 01, 'The desk program').
+mod lines;
+mod printing;
+
+pub use lines::Span;
+pub use lines::next_line;
+pub use printing::Printed;
+pub use printing::print;
