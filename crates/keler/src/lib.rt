@@ -2,7 +2,7 @@
 mod set;
 mod writing;
 
-use line::is_day;
+use days::is_day;
 use set::set_line;
 use writing::Written;
 ghost use mathlib.Core.Path.{_≡_};

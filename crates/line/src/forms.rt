@@ -8,6 +8,7 @@ use crate::pick;
 use crate::same;
 use crate::wide;
 use crate::within;
+use days::is_day;
 ghost use Prim.Native.Nat.{_-_, _<_, _≤_, min};
 ghost use mathlib.Core.Path.{_≡_};
 ghost use mathlib.Core.List.{[], _∷_};
@@ -16,8 +17,6 @@ ghost use Rattle.meaning.specs.Text.{word, decimal};
 ghost use Rattle.meaning.specs.Forms.{
   isNumber,
   isCode,
-  isDay,
-  monthLength,
   given,
   read,
   upTo,
@@ -97,35 +96,6 @@ fn is_code(n: u32) -> bool
     ensures { λ r. ⌜ r ≡ isCode n ⌝ }
 {
     and(within(1, 99, n / 100), within(1, 99, n % 100))
-}
-
-// The lengths of the months of a common year, January's at 1.
-const MONTHS: [u8; 13] = [0, 31, 28, 31, 30, 31, 30, 31, 31, 30, 31, 30, 31];
-
-// A year is leap when 4 divides it.
-fn month_length(year: u32, month: u32) -> u32
-    ensures { λ r. ⌜ r ≡ monthLength year month ⌝ }
-{
-    pick(
-        and(month == 2, year % 4 == 0),
-        29,
-        wide(byte_at(&MONTHS, month as usize)),
-    )
-}
-
-// Whether year × 10000 + month × 100 + day is a real calendar date from 2000 to 2099.
-pub fn is_day(n: u32) -> bool
-    ensures { λ r. ⌜ r ≡ isDay n ⌝ }
-{
-    let year = n / 10000;
-    let month = n / 100 % 100;
-    and(
-        within(2000, 2099, year),
-        and(
-            within(1, 12, month),
-            within(1, month_length(year, month), n % 100),
-        ),
-    )
 }
 
 // ---- a field by its form

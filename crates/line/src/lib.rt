@@ -4,7 +4,6 @@ mod reading;
 
 pub use fields::cut;
 use fields::find;
-pub use forms::is_day;
 pub use reading::Line;
 pub use reading::read_line;
 ghost use Prim.Native.Nat.{_<_};

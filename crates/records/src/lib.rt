@@ -3,10 +3,9 @@ ghost use mathlib.Core.Path.{_≡_};
 ghost use mathlib.Core.Bool.{_||_, _&&_, not, cond};
 ghost use Prim.Native.Nat.{_+_, _≤_};
 ghost use lib.Dec.{eqb, ltb};
-ghost use lib.ListN.{getD};
 ghost use Rattle.tables.specs.Count.{bit, allBelow};
 ghost use Rattle.meaning.specs.Fields.{within, isCapital};
-ghost use Rattle.meaning.specs.Forms.{holds, holdsAll, optional, upTo, day, code, transactionForm, currencyForm, isWord, months, monthLength, tenValues};
+ghost use Rattle.meaning.specs.Forms.{holds, holdsAll, optional, upTo, day, code, transactionForm, currencyForm, isWord, tenValues};
 ghost use Rattle.meaning.specs.Keys.{sameNumbers, filled, isType, isRule, ofRule, isRow, isPeriod, clash};
 ghost use Rattle.meaning.specs.Refusals.{typeOutside, periodOutside, otherCriteria, outside};
 ghost use Rattle.meaning.specs.Sound.{daysFit, keyFits, typeFits, ruleFits, rowFits, periodFits, fillsRule};
@@ -14,6 +13,7 @@ ghost use Rattle.records.specs.Said.{typeOf, ruleOf, rowOf, periodOf};
 ghost use Rattle.records.specs.Criteria.{belongs, agrees, filledCount, codesFit, namesFit};
 ghost use Rattle.records.specs.Free.{typeZero, ruleZero, rowZero, periodZero};
 ghost use Rattle.records.specs.Asks.{typeMeets, ruleMeets, rowMeets, periodMeets};
+use days::is_day;
 use places::Period;
 use places::RestrictionType;
 use places::Row;
@@ -96,32 +96,6 @@ pub fn small(low: u8, x: u8, high: u8) -> bool
 }
 
 // ---- Ranges (document 01, 'Lines').
-
-const MONTHS: [u16; 13] = [0, 31, 28, 31, 30, 31, 30, 31, 31, 30, 31, 30, 31];
-
-fn common_month(month: u32) -> u16
-    ensures { λ r. ⌜ r ≡ getD months month 0 ⌝ }
-{
-    let i = month as usize;
-    if i < 13 { MONTHS[i] } else { 0 }
-}
-
-// A year is leap when 4 divides it.
-fn month_length(year: u32, month: u32) -> u16
-    ensures { λ r. ⌜ r ≡ monthLength year month ⌝ }
-{
-    pick(and(month == 2, year % 4 == 0), 29, common_month(month))
-}
-
-// A real calendar date from 2000 to 2099, as eight digits.
-pub fn is_day(n: u32) -> bool
-    ensures { λ r. ⌜ r ≡ holds day n ⌝ }
-{
-    let year = n / 10000;
-    let month = n / 100 % 100;
-    let days = inside(1, n % 100, month_length(year, month) as u32);
-    and(inside(2000, year, 2099), and(inside(1, month, 12), days))
-}
 
 // First is not after last.
 fn days_fit(first: u32, last: u32) -> bool

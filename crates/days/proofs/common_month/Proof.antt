@@ -1,10 +1,10 @@
--- `records::common_month` meets its contract. Assumes nothing.
+-- `days::common_month` meets its contract. Assumes nothing.
 use mathlib.Core.Path.{sym}
 use lib.ListN.{List·getD-eq-default}
 use Rattle.meaning.specs.Forms.{months}
 use borrow.Author.Needs.{needs}
-use Rattle.records.proofs.common_month.Statement.{statement}
-use Rattle.records.proofs.common_month.Tie as tie
+use Rattle.days.proofs.common_month.Statement.{statement}
+use Rattle.days.proofs.common_month.Tie as tie
 
 pub common-month-spec : {M : Type 1} → statement M
 common-month-spec =

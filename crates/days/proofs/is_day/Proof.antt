@@ -1,7 +1,8 @@
--- `line::forms::is_day` meets its contract.
+-- `days::is_day` meets its contract. Assumes nothing.
+use Rattle.days.proofs.Dates.{is-date}
 use borrow.Author.Needs.{needs}
-use Rattle.line.proofs.forms.is_day.Statement.{statement}
-use Rattle.line.proofs.forms.is_day.Tie as tie
+use Rattle.days.proofs.is_day.Statement.{statement}
+use Rattle.days.proofs.is_day.Tie as tie
 
 pub is-day-spec : {M : Type 1} → statement M
 is-day-spec =
@@ -13,4 +14,4 @@ is-day-spec =
     (λ c κs. search needs)
     (λ c κs. search needs)
     (λ c κs. search needs)
-    (λ c. cc))
+    (λ c. search is-date))
