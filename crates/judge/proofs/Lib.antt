@@ -1,4 +1,5 @@
 pub mod Rows
 pub mod Types
+pub mod Listing
 pub mod Ranged
 pub mod Right

@@ -1,10 +1,11 @@
 -- How a question is judged over the places of the lent book, in one pass over each table. A stage leaves marks, tests of the keys of a table
 -- of numbers; each definition is of any bytes. Assumes nothing.
-use Prim.Native.Nat.{ℕ, zero, suc, _+_, _*_}
+use Prim.Native.Nat.{ℕ, zero, suc, _+_, _*_, _<_, _≤_}
+use mathlib.Core.Path.{_≡_}
 use mathlib.Core.Bool.{Bool, false, _&&_, _||_, not, cond}
 use mathlib.Core.List.{List, [], _∷_}
 use lib.Dec.{eqb}
-use lib.ListN.{getD}
+use lib.ListN.{length, getD, replicate}
 use Rattle.tables.specs.Count.{lesser, allBelow}
 use Rattle.tables.specs.Below.{leastBelow}
 use Rattle.tables.specs.Keyed.{keys, leasts, afterPlace}
@@ -18,6 +19,8 @@ use Rattle.places.specs.declared.RestrictionType.{RestrictionType}
 use Rattle.places.specs.declared.Rule.{Rule}
 use Rattle.places.specs.declared.Row.{Row}
 use Rattle.places.specs.declared.Period.{Period}
+use Rattle.rules.specs.Search.{noRule}
+use Rattle.rules.specs.declared.Judged.{Judged}
 use Rattle.judge.specs.declared.Question.{Question}
 
 -- what a question asks, as the written meaning's
@@ -140,6 +143,24 @@ rulesMatched b q rows =
     keys (λ r. r .csd) (q .csd) (ruleAt b) signedKey (ruleMatches q rows) signKeys 512
 
 -- ---- 4. the rules of a type, looked through in rising sequence
+
+-- the rule of a type at a sequence, by the marks of its two signs
+abbrev pub judgedRule : (ℕ → Bool) → ℕ → ℕ → Judged
+judgedRule rules type s = record {
+  sequence = s;
+  sign = cond (rules (signKey type s positive)) positive negative;
+  matches = rules (signKey type s positive) || rules (signKey type s negative);
+}
+
+-- no rule at any sequence
+unfoldable pub noneListed : List Judged
+noneListed = replicate 100 noRule
+
+-- the rules of a type below sequence n, each at the place of its sequence; no rule has sequence 0
+pub record Listed (rules : ℕ → Bool) (type n : ℕ) (t : List Judged) : Type 0 where
+  pub long : length t ≡ 100
+  pub none : getD t 0 noRule ≡ noRule
+  pub each : (s : ℕ) → 1 ≤ s → s < n → getD t s noRule ≡ judgedRule rules type s
 
 -- the first rule of that type and sign that matches, 0 where none does
 unfoldable pub firstRule : (ℕ → Bool) → ℕ → ℕ → ℕ

@@ -5,14 +5,17 @@ ghost use mathlib.Core.Bool.{_&&_, _||_, not, cond};
 ghost use lib.ListN.{set, getD};
 ghost use Rattle.tables.specs.Count.{lesser};
 ghost use Rattle.tables.specs.Keyed.{marked, Blank};
+ghost use Rattle.meaning.specs.Records.{positive, negative};
 ghost use Rattle.meaning.specs.Judging.{covers};
-ghost use Rattle.judge.specs.Stages.{codeKey, ruleKey, signKey, codeKeys, ruleKeys, signKeys, sought, borneBy, markCode, codesBorne, tests, testAt, valuesMet, rowMatches, markRow, rowsMatched, ruleMatches, markRule, rulesMatched, firstRule, typeApplies, nameType, typesNamed, decided, verdict, judgedBy};
+ghost use Rattle.judge.specs.Stages.{codeKey, ruleKey, signKey, codeKeys, ruleKeys, signKeys, sought, borneBy, markCode, codesBorne, tests, testAt, valuesMet, rowMatches, markRow, rowsMatched, ruleMatches, markRule, rulesMatched, judgedRule, noneListed, Listed, firstRule, typeApplies, nameType, typesNamed, decided, verdict, judgedBy};
 use meaning::Deciding;
 use meaning::Verdict;
 use places::Period;
 use places::RestrictionType;
 use places::Row;
 use places::Rule;
+use rules::First;
+use rules::Judged;
 
 // What is asked. Role is the instructing party's type; an empty field is 0.
 pub struct Question {
@@ -309,13 +312,59 @@ fn rules_matched(b: &[u8], q: Question, rows: &[u8]) -> [u8; 30000]
 
 // 4. The rules of a type, looked through in rising sequence.
 
-// The first rule of a type and sign that matches, 0 where none does.
-fn first_rule(rules: &[u8], number: u8, sign: u8) -> u8
-    ensures { λ r. ⌜ r ≡ firstRule (marked (now (rules .entry))) number sign ⌝ }
+// A rule of a type as judged, by the marks of its sequence: a sound book has one rule, so one mark at most.
+fn judged_rule(rules: &[u8], number: u8, sequence: u8) -> Judged
+    ensures { λ r. ⌜ r ≡ judgedRule (marked (now (rules .entry))) number sequence ⌝ }
+{
+    let s = sequence as u16;
+    let positive = is_marked(rules, sign_key(number, s, 1));
+    let negative = is_marked(rules, sign_key(number, s, 2));
+    Judged {
+        sequence,
+        sign: pick(positive, 1, 2),
+        matches: or(positive, negative),
+    }
+}
+
+fn none_listed() -> [Judged; 100]
+    ensures { λ r. ⌜ r ≡ noneListed ⌝ }
+{
+    let none = Judged {
+        sequence: 0,
+        sign: 0,
+        matches: false,
+    };
+    [none; 100]
+}
+
+// The rules of a type by sequence. No rule has sequence 0.
+fn rules_listed(rules: &[u8], number: u8) -> [Judged; 100]
+    ensures { λ r. ⌜ Listed (marked (now (rules .entry))) number 100 r ⌝ }
+{
+    let mut t = none_listed();
+    for s in 1..100 {
+        t[s as usize] = judged_rule(rules, number, s);
+    }
+    t
+}
+
+// The first positive rule of a type that matches, 0 where none does.
+fn first_rule(rules: &[u8], number: u8) -> u8
+    ensures { λ r. ⌜ r ≡ firstRule (marked (now (rules .entry))) number positive ⌝ }
+{
+    match rules::first_of(rules_listed(rules, number)) {
+        First::At(sequence) => sequence,
+        First::Nothing => 0,
+    }
+}
+
+// The first negative rule of a type that matches, 0 where none does.
+fn first_negative(rules: &[u8], number: u8) -> u8
+    ensures { λ r. ⌜ r ≡ firstRule (marked (now (rules .entry))) number negative ⌝ }
 {
     let mut x: u8 = 0;
     for s in 0..100 {
-        let key = sign_key(number, s as u16, sign);
+        let key = sign_key(number, s as u16, 2);
         x = lesser(pick(is_marked(rules, key), s, 0), x);
     }
     x
@@ -328,8 +377,8 @@ fn type_applies(q: Question, rules: &[u8], t: RestrictionType) -> bool
     ensures { λ r. ⌜ r ≡ typeApplies q (marked (now (rules .entry))) t ⌝ }
 {
     if and(t.object == q.object, covers(t.first, t.last, q.day)) {
-        let positive = first_rule(rules, t.number, 1);
-        let negative = first_rule(rules, t.number, 2);
+        let positive = first_rule(rules, t.number);
+        let negative = first_negative(rules, t.number);
         and(no(positive == 0), negative == 0)
     } else {
         false
@@ -370,7 +419,7 @@ fn decided(rules: &[u8], number: u8) -> Deciding
     }
     Deciding {
         number,
-        sequence: first_rule(rules, number, 1),
+        sequence: first_rule(rules, number),
     }
 }
 
