@@ -49,7 +49,7 @@ module _ (rules : ℕ → Bool) (type : ℕ) where
   may true b = refl
   may false b = refl
 
-  firsts : (t : List Judged) → Listed rules type 100 t → sequenceOf (firstPositive t) ≡ firstRule rules type positive
+  firsts : (t : List Judged) → Listed rules type 100 t → sequenceOf (firstPositive t) ≡ firstRule rules type
   unfolding firstRule
   firsts t m =
       rising t (λ s. rules (signKey type s positive)) (ap mayDecide (m .none))
@@ -58,8 +58,8 @@ module _ (rules : ℕ → Bool) (type : ℕ) where
       (omega (arith, m .long))
       ∙ ap (leastBelow (λ s. cond (rules (signKey type s positive)) s 0)) (m .long)
 
-  pub first-at : (t : List Judged) (f : First) (s : ℕ) → f ≡ At s → f ≡ firstPositive t → Listed rules type 100 t → s ≡ firstRule rules type positive
+  pub first-at : (t : List Judged) (f : First) (s : ℕ) → f ≡ At s → f ≡ firstPositive t → Listed rules type 100 t → s ≡ firstRule rules type
   first-at t f s e d m = ap sequenceOf (sym e ∙ d) ∙ firsts t m
 
-  pub first-nothing : (t : List Judged) (f : First) → f ≡ Nothing → f ≡ firstPositive t → Listed rules type 100 t → 0 ≡ firstRule rules type positive
+  pub first-nothing : (t : List Judged) (f : First) → f ≡ Nothing → f ≡ firstPositive t → Listed rules type 100 t → 0 ≡ firstRule rules type
   first-nothing t f e d m = ap sequenceOf (sym e ∙ d) ∙ firsts t m

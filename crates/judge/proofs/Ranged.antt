@@ -1,5 +1,5 @@
 -- In a sound lone book the numbers that are keys are in their ranges.
-use Prim.Native.Nat.{ℕ, _/_, _≤_, _<_}
+use Prim.Native.Nat.{ℕ, _/_, _<_}
 use mathlib.Core.Path.{_≡_}
 use mathlib.Core.Bool.{true}
 use mathlib.Core.List.{List}
@@ -17,7 +17,7 @@ use Rattle.book.specs.Lone.{rulesOf, rowsOf, periodsOf, loneBook}
 pub record Ranged (a : ℕ) (b : List ℕ) : Type 0 where
   pub periods : (i : ℕ) → i < 1024 → periodAt b i .csd ≡ a → (periodAt b i .code < 10000) × (periodAt b i .kind < 4)
   pub rows : (i : ℕ) → i < 1024 → rowAt b i .csd ≡ a → (rowAt b i .number < 100) × (rowAt b i .sequence < 100)
-  pub rules : (i : ℕ) → i < 512 → ruleAt b i .csd ≡ a → (ruleAt b i .number < 100) × (1 ≤ ruleAt b i .sequence) × (ruleAt b i .sequence < 100) × (ruleAt b i .sign < 3)
+  pub rules : (i : ℕ) → i < 512 → ruleAt b i .csd ≡ a → (ruleAt b i .number < 100) × (ruleAt b i .sequence < 100) × (ruleAt b i .sign < 3)
 
 pub ranged : (a : ℕ) (b : List ℕ) → soundLone (loneBook a b) ≡ true → Ranged a b
 unfolding periodsOf periodOf periodFits rowsOf rowOf rowFits rulesOf ruleOf ruleFits keyFits holds
@@ -37,8 +37,7 @@ ranged a b s =
       rules = λ i l o.
           let e = every-at (λ r. r .csd) ruleOf a ruleFits (ruleAt b) 512 (g .rulesFit) i l o in
           let number = leb-true (ruleAt b i .number) 99 (search ands) in
-          let some = leb-true 1 (ruleAt b i .sequence) (search ands) in
           let sequence = leb-true (ruleAt b i .sequence) 99 (search ands) in
           let sign = leb-true (ruleAt b i .sign) 2 (search ands) in
-          (omega arith, some, omega arith, omega arith);
+          (omega arith, omega arith, omega arith);
     }

@@ -1,7 +1,7 @@
 -- Over a sound lone book, what is judged by the book's bytes is the written meaning's verdict.
 use Prim.Native.Nat.{ℕ, zero, suc, _≤_, _<_}
 use mathlib.Core.Path.{_≡_, refl, ap, sym, _∙_, fun-ext}
-use mathlib.Core.Bool.{Bool, true, false, _&&_, not, cond, and-true, and-false, and-comm, Bool·not-not}
+use mathlib.Core.Bool.{Bool, true, false, _&&_, not, cond, and-true, and-false, and-comm}
 use mathlib.Core.List.{List, [], _∷_}
 use native.Mathlib.Omega.{arith}
 use lib.Dec.{eqb}
@@ -11,7 +11,7 @@ use Rattle.tables.specs.Count.{has}
 use Rattle.tables.specs.Below.{anyBelow, leastBelow}
 use Rattle.tables.specs.Keyed.{leasts}
 use Rattle.tables.proofs.Counts.{cases, ands}
-use Rattle.tables.proofs.Below.{any-same, least-same, has-lone, least-lone, least-by, least-some}
+use Rattle.tables.proofs.Below.{any-same, least-same, has-lone, least-lone, least-by}
 use Rattle.tables.proofs.Keying.{keys-all, parts-eq}
 use Rattle.meaning.specs.Records as M
 use Rattle.meaning.specs.Records.{positive, negative, party, account, security, rejection, validationHold, partyHold}
@@ -22,7 +22,7 @@ use Rattle.meaning.specs.Sound.{soundLone}
 use Rattle.places.specs.Layout.{typeAt, ruleAt, rowAt, periodAt}
 use Rattle.records.specs.Said.{typeOf, ruleOf, rowOf, periodOf}
 use Rattle.book.specs.Lone.{typesOf, rulesOf, rowsOf, periodsOf, loneBook}
-use Rattle.judge.specs.Stages.{asked, codeKey, ruleKey, signKey, periodKey, rowKey, signedKey, codeKeys, ruleKeys, signKeys, sought, borneBy, codesBorne, tests, rowMatches, rowsMatched, ruleMatches, rulesMatched, firstRule, typeApplies, typesNamed, decided, verdict, rulesOn, judgedBy}
+use Rattle.judge.specs.Stages.{asked, codeKey, ruleKey, signKey, typeKey, periodKey, rowKey, signedKey, typedKey, codeKeys, ruleKeys, signKeys, typeKeys, sought, borneBy, codesBorne, tests, rowMatches, rowsMatched, ruleMatches, rulesMatched, signsMatched, typeApplies, typesNamed, firstRule, decided, verdict, rulesOn, signsOn, judgedBy}
 use Rattle.judge.specs.declared.Question.{Question}
 use Rattle.judge.proofs.Ranged.{Ranged, ranged}
 use Rattle.judge.proofs.Rows.{row-met}
@@ -138,66 +138,79 @@ module _ (b : List ℕ) (q : Question) (r : Ranged (q .csd) b) where
   rules-of : ℕ → ℕ → ℕ → Bool
   rules-of t sign i = eqb (ruleAt b i .csd) (q .csd) && speaks lone (asked q) t sign (ruleOf (ruleAt b i))
 
-  in-range : (t sign i : ℕ) → i < 512 → rules-of t sign i ≡ true → (1 ≤ ruleAt b i .sequence) × (ruleAt b i .sequence < 100)
-  unfolding rules-of
-  in-range t sign i l e = let y = r .rules i l (eqb-true (ruleAt b i .csd) (q .csd) (search ands)) in (y .1, y .2)
+  -- with a further test s of the rule's key, as of its sequence
+  spoken : (t sign i : ℕ) (s : Bool) → i < 512 → ruleAt b i .csd ≡ q .csd → (ruleMatches q (rowsMatched b q (codesBorne b q)) (ruleAt b i) && (eqb (ruleAt b i .sign) sign && (s && eqb (ruleAt b i .number) t))) ≡ (speaks lone (asked q) t sign (ruleOf (ruleAt b i)) && s)
+  unfolding ruleMatches rows-of speaks matches ruleOf
+  spoken t sign i s l e =
+      rule-order (eqb (ruleAt b i .object) (q .object)) (covers (ruleAt b i .first) (ruleAt b i .last) (q .day))
+      (rowsMatched b q (codesBorne b q) (ruleKey (ruleAt b i .number) (ruleAt b i .sequence)))
+      (matches lone (asked q) (ruleOf (ruleAt b i))) (eqb (ruleAt b i .sign) sign) s (eqb (ruleAt b i .number) t)
+      (λ z.
+      rows (ruleAt b i .number) (ruleAt b i .sequence) (r .rules i l e .1)
+      ∙ ap (λ o. has (λ w. ofRule (ruleAt b i .number) o (ruleAt b i .sequence) w && meetsAll (meant.tests lone (asked q)) (w .values)) (lone .rows))
+      (sym (eqb-true (ruleAt b i .object) (q .object) z)))
 
   rules : (t x sign : ℕ) → x < 100 → sign < 3 → rulesOn b q (signKey t x sign) ≡ anyBelow (λ i. rules-of t sign i && eqb (ruleAt b i .sequence) x) 512
-  unfolding rulesMatched ruleMatches rules-of rows-of speaks matches ruleOf
+  unfolding rulesMatched rules-of
   rules t x sign low few =
       keys-all signKeys (λ r. r .csd) (q .csd) (ruleAt b) signedKey (ruleMatches q (rowsMatched b q (codesBorne b q))) 512
-      (λ i l o e. let y = r .rules i l o in omega (arith, y .0, y .2, y .3)) (signKey t x sign)
+      (λ i l o e. let y = r .rules i l o in omega (arith, y .0, y .1, y .2)) (signKey t x sign)
       ∙ any-same _ _ 512
       (λ i l.
       cases (eqb (ruleAt b i .csd) (q .csd))
       (λ e.
-      let y = r .rules i l (eqb-true (ruleAt b i .csd) (q .csd) e) in
+      let o = eqb-true (ruleAt b i .csd) (q .csd) e in
+      let y = r .rules i l o in
       rw (
         e,
-        parts-eq 3 (ruleKey (ruleAt b i .number) (ruleAt b i .sequence)) (ruleAt b i .sign) (ruleKey t x) sign (y .3) few,
-        parts-eq 100 (ruleAt b i .number) (ruleAt b i .sequence) t x (y .2) low,
+        parts-eq 3 (ruleKey (ruleAt b i .number) (ruleAt b i .sequence)) (ruleAt b i .sign) (ruleKey t x) sign (y .2) few,
+        parts-eq 100 (ruleAt b i .number) (ruleAt b i .sequence) t x (y .1) low,
       )
-      (rule-order (eqb (ruleAt b i .object) (q .object)) (covers (ruleAt b i .first) (ruleAt b i .last) (q .day))
-      (rowsMatched b q (codesBorne b q) (ruleKey (ruleAt b i .number) (ruleAt b i .sequence)))
-      (matches lone (asked q) (ruleOf (ruleAt b i))) (eqb (ruleAt b i .sign) sign) (eqb (ruleAt b i .sequence) x) (eqb (ruleAt b i .number) t)
-      (λ z.
-      rows (ruleAt b i .number) (ruleAt b i .sequence) (y .2)
-      ∙ ap (λ o. has (λ w. ofRule (ruleAt b i .number) o (ruleAt b i .sequence) w && meetsAll (meant.tests lone (asked q)) (w .values)) (lone .rows))
-      (sym (eqb-true (ruleAt b i .object) (q .object) z)))))
+      (spoken t sign i (eqb (ruleAt b i .sequence) x) l o))
       (λ e. rw e))
 
-  -- 4. What is found in rising sequence is what the written meaning finds among the rules.
-  firsts : (t sign : ℕ) → sign < 3 → firstRule (rulesOn b q) t sign ≡ leastBelow (λ i. cond (rules-of t sign i) (ruleAt b i .sequence) 0) 512
-  unfolding firstRule
-  firsts t sign few =
-      least-same _ _ 100 (λ x l. ap (λ z. cond z x 0) (rules t x sign l few))
-      ∙ least-by (rules-of t sign) (λ i. ruleAt b i .sequence) 100 512 (λ i l e. in-range t sign i l e .1)
-
-  decides : (t : ℕ) → firstRule (rulesOn b q) t positive ≡ deciding lone (asked q) t
-  unfolding lone rules-of deciding rulesOf ruleOf
-  decides t = firsts t positive (omega arith) ∙ sym (least-lone (λ r. r .csd) ruleOf (q .csd) (ruleAt b) _ _ 512)
-
-  none-speaks : (t sign : ℕ) → sign < 3 → eqb (firstRule (rulesOn b q) t sign) 0 ≡ not (has (speaks lone (asked q) t sign) (lone .rules))
-  unfolding lone rules-of rulesOf
-  none-speaks t sign few =
-      ap (λ z. eqb z 0) (firsts t sign few)
-      ∙ least-some (rules-of t sign) (λ i. ruleAt b i .sequence) 512 (λ i l e. in-range t sign i l e .0)
-      ∙ ap not (sym (has-lone (λ r. r .csd) ruleOf (q .csd) (ruleAt b) _ 512))
+  -- 4. A marked sign of a type is that of a rule that speaks.
+  signs : (t sign : ℕ) → sign < 3 → signsOn b q (typeKey t sign) ≡ has (speaks lone (asked q) t sign) (lone .rules)
+  unfolding lone signsMatched rulesOf
+  signs t sign few =
+      keys-all typeKeys (λ r. r .csd) (q .csd) (ruleAt b) typedKey (ruleMatches q (rowsMatched b q (codesBorne b q))) 512
+      (λ i l o e. let y = r .rules i l o in omega (arith, y .0, y .2)) (typeKey t sign)
+      ∙ any-same _ _ 512
+      (λ i l.
+      cases (eqb (ruleAt b i .csd) (q .csd))
+      (λ e.
+      let o = eqb-true (ruleAt b i .csd) (q .csd) e in
+      rw (e, parts-eq 3 (ruleAt b i .number) (ruleAt b i .sign) t sign (r .rules i l o .2) few)
+      (spoken t sign i true l o ∙ and-true (speaks lone (asked q) t sign (ruleOf (ruleAt b i)))))
+      (λ e. rw e))
+      ∙ sym (has-lone (λ r. r .csd) ruleOf (q .csd) (ruleAt b) _ 512)
 
   -- 5. The types.
-  applied : (processing i : ℕ) → (typeApplies q (rulesOn b q) (typeAt b i) && eqb (typeAt b i .processing) processing) ≡ applies lone (asked q) processing (typeOf (typeAt b i))
+  applied : (processing i : ℕ) → (typeApplies q (signsOn b q) (typeAt b i) && eqb (typeAt b i .processing) processing) ≡ applies lone (asked q) processing (typeOf (typeAt b i))
   unfolding typeApplies applies typeOf
   applied processing i =
-      rw (none-speaks (typeAt b i .number) positive (omega arith), none-speaks (typeAt b i .number) negative (omega arith), Bool·not-not)
+      rw (signs (typeAt b i .number) positive (omega arith), signs (typeAt b i .number) negative (omega arith))
       (type-order (eqb (typeAt b i .object) (q .object)) (covers (typeAt b i .first) (typeAt b i .last) (q .day))
       (has (speaks lone (asked q) (typeAt b i .number) positive) (lone .rules))
       (not (has (speaks lone (asked q) (typeAt b i .number) negative) (lone .rules))) (eqb (typeAt b i .processing) processing))
 
-  lowest : (processing : ℕ) → leastBelow (λ i. cond (eqb (typeAt b i .csd) (q .csd) && (typeApplies q (rulesOn b q) (typeAt b i) && eqb (typeAt b i .processing) processing)) (typeAt b i .number) 0) 128 ≡ meant.named lone (asked q) processing
+  lowest : (processing : ℕ) → leastBelow (λ i. cond (eqb (typeAt b i .csd) (q .csd) && (typeApplies q (signsOn b q) (typeAt b i) && eqb (typeAt b i .processing) processing)) (typeAt b i .number) 0) 128 ≡ meant.named lone (asked q) processing
   unfolding lone meant.named typesOf typeOf
   lowest processing =
       least-same _ _ 128 (λ i l. ap (λ z. cond (eqb (typeAt b i .csd) (q .csd) && z) (typeAt b i .number) 0) (applied processing i))
       ∙ sym (least-lone (λ t. t .csd) typeOf (q .csd) (typeAt b) _ _ 128)
+
+  -- 6. What is found in rising sequence is what the written meaning finds among the rules.
+  in-range : (t i : ℕ) → i < 512 → rules-of t positive i ≡ true → ruleAt b i .sequence < 100
+  unfolding rules-of
+  in-range t i l e = r .rules i l (eqb-true (ruleAt b i .csd) (q .csd) (search ands)) .1
+
+  decides : (t : ℕ) → firstRule (rulesOn b q) t ≡ deciding lone (asked q) t
+  unfolding firstRule lone rules-of deciding rulesOf ruleOf
+  decides t =
+      least-same _ _ 100 (λ x l. ap (λ z. cond z x 0) (rules t x positive l (omega arith)))
+      ∙ least-by (rules-of t positive) (λ i. ruleAt b i .sequence) 100 512 (in-range t)
+      ∙ sym (least-lone (λ r. r .csd) ruleOf (q .csd) (ruleAt b) _ _ 512)
 
   decided-right : (t : ℕ) → decided (rulesOn b q) t ≡ meant.decided lone (asked q) t
   unfolding decided meant.decided
@@ -215,4 +228,4 @@ pub judged-right : (b : List ℕ) (q : Question) → soundLone (loneBook (q .csd
 unfolding judgedBy lone typesNamed leasts judged
 judged-right b q s =
     let r = ranged (q .csd) b s in
-    verdict-right b q r (typesNamed b q (rulesOn b q)) _ _ _ (lowest b q r rejection) (lowest b q r validationHold) (lowest b q r partyHold)
+    verdict-right b q r (typesNamed b q (signsOn b q)) _ _ _ (lowest b q r rejection) (lowest b q r validationHold) (lowest b q r partyHold)

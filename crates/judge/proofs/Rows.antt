@@ -11,7 +11,7 @@ use Rattle.tables.specs.Count.{allBelow}
 use Rattle.tables.specs.Keyed.{marked}
 use Rattle.tables.proofs.Counts.{cases-eq}
 use Rattle.meaning.specs.Judging.{meetsAll}
-use Rattle.judge.specs.Stages.{testAt, valuesMet}
+use Rattle.judge.specs.Stages.{testAt, valueMet, valuesMet}
 
 -- A criterion, by the arm of its number.
 pub arm : (fs : List (ℕ → Bool)) (i k v : ℕ) (r : Bool) → i ≡ k → r ≡ testAt fs k v → r ≡ testAt fs i v
@@ -35,6 +35,9 @@ arm-none fs i v e h0 h1 h2 h3 h4 h5 h6 h7 h8 h9 =
     beyond fs i v
     (subst⁻¹ (λ n. n ≤ i) e
     (up 9 i (up 8 i (up 7 i (up 6 i (up 5 i (up 4 i (up 3 i (up 2 i (up 1 i (up 0 i (omega arith) h0) h1) h2) h3) h4) h5) h6) h7) h8) h9))
+
+pub met-by : (fs : List (ℕ → Bool)) (i v : ℕ) (m r : Bool) → r ≡ (eqb v 0 || m) → m ≡ testAt fs i v → r ≡ valueMet fs i v
+met-by fs i v m r e em = rw (e, em)
 
 and-assoc : (a b d : Bool) → ((a && b) && d) ≡ (a && (b && d))
 and-assoc true b d = refl

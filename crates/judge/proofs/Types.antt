@@ -1,35 +1,31 @@
--- What the returns of the functions on types leave to show.
+-- What the returns of the functions on rules, types and the verdict leave to show.
 use Prim.Native.Nat.{ℕ}
-use mathlib.Core.Path.{_≡_, sym, _∙_}
-use mathlib.Core.Bool.{Bool, true, false, _&&_, not, cond}
+use mathlib.Core.Path.{_≡_}
+use mathlib.Core.Bool.{Bool, _&&_, not, cond}
 use lib.Dec.{eqb}
 use borrow.Author.Tests.{ne-eqb}
 use Rattle.meaning.specs.Records.{positive, negative, rejection, validationHold, partyHold}
 use Rattle.meaning.specs.Judging.{covers, by}
 use Rattle.meaning.specs.declared.Deciding.{Deciding}
 use Rattle.places.specs.declared.RestrictionType.{RestrictionType}
-use Rattle.judge.specs.Stages.{firstRule, typeApplies, decided, verdict}
+use Rattle.places.specs.declared.Rule.{Rule}
+use Rattle.judge.specs.Stages.{ruleKey, typeKey, ruleMatches, firstRule, typeApplies, decided, verdict}
 use Rattle.judge.specs.declared.Question.{Question}
 
+pub rule-by : (rows : ℕ → Bool) (q : Question) (r : Rule) (k : ℕ) (d m y x : Bool) → x ≡ (eqb (r .object) (q .object) && y) → y ≡ (d && m) → m ≡ rows k → k ≡ ruleKey (r .number) (r .sequence) → d ≡ covers (r .first) (r .last) (q .day) → x ≡ ruleMatches q rows r
+unfolding ruleMatches
+rule-by rows q r k d m y x ex ey em ek ed = rw (ex, ey, em, ek, ed)
+
+pub applies-by : (signs : ℕ → Bool) (q : Question) (t : RestrictionType) (kp kn : ℕ) (d x p n n′ y r : Bool) → r ≡ (x && y) → y ≡ (p && n′) → n′ ≡ not n → x ≡ (eqb (t .object) (q .object) && d) → n ≡ signs kn → kn ≡ typeKey (t .number) negative → p ≡ signs kp → kp ≡ typeKey (t .number) positive → d ≡ covers (t .first) (t .last) (q .day) → r ≡ typeApplies q signs t
+unfolding typeApplies
+applies-by signs q t kp kn d x p n n′ y r er ey en′ ex en ekn ep ekp ed = rw (er, ey, en′, ex, en, ekn, ep, ekp, ed)
+
 module _ (rules : ℕ → Bool) where
-  -- a current type, by what is called on the way
-  pub applies-in : (q : Question) (t : RestrictionType) (d now some r : Bool) (f g : ℕ) → r ≡ (some && eqb g 0) → g ≡ firstRule rules (t .number) negative → some ≡ not (eqb f 0) → f ≡ firstRule rules (t .number) positive → now ≡ true → now ≡ (eqb (t .object) (q .object) && d) → d ≡ covers (t .first) (t .last) (q .day) → r ≡ typeApplies q rules t
-  unfolding typeApplies
-  applies-in q t d now some r f g er eg es ef y en ed =
-      let z : (eqb (t .object) (q .object) && covers (t .first) (t .last) (q .day)) ≡ true = sym (rw ed at en) ∙ y in
-      rw z (rw (er, es, eg, ef))
-
-  pub applies-out : (q : Question) (t : RestrictionType) (d now : Bool) → now ≡ false → now ≡ (eqb (t .object) (q .object) && d) → d ≡ covers (t .first) (t .last) (q .day) → false ≡ typeApplies q rules t
-  unfolding typeApplies
-  applies-out q t d now y en ed =
-      let z : (eqb (t .object) (q .object) && covers (t .first) (t .last) (q .day)) ≡ false = sym (rw ed at en) ∙ y in
-      rw z
-
   pub decided-none : (number : ℕ) → number ≡ 0 → by 0 0 ≡ decided rules number
   unfolding decided
   decided-none number e = rw e
 
-  pub decided-some : (number f : ℕ) → f ≡ firstRule rules number positive → (number ≡ 0 → ⊥) → by number f ≡ decided rules number
+  pub decided-some : (number f : ℕ) → f ≡ firstRule rules number → (number ≡ 0 → ⊥) → by number f ≡ decided rules number
   unfolding decided
   decided-some number f e d = rw (e, ne-eqb number 0 d)
 

@@ -1,4 +1,4 @@
--- How a question is judged over the places of the lent book, in one pass over each table. A stage leaves marks, tests of the keys of a table
+-- How a question is judged over the places of the lent book, in one pass over each table, two over the rules. A stage leaves marks, tests of the keys of a table
 -- of numbers; each definition is of any bytes. Assumes nothing.
 use Prim.Native.Nat.{ℕ, zero, suc, _+_, _*_, _<_, _≤_}
 use mathlib.Core.Path.{_≡_}
@@ -52,6 +52,10 @@ ruleKey type sequence = type * 100 + sequence
 abbrev pub signKey : ℕ → ℕ → ℕ → ℕ
 signKey type sequence sign = ruleKey type sequence * 3 + sign
 
+-- a type of the question's object with the sign of a rule
+abbrev pub typeKey : ℕ → ℕ → ℕ
+typeKey type sign = type * 3 + sign
+
 -- by record
 abbrev pub periodKey : Period → ℕ
 periodKey p = codeKey (p .code) (p .kind)
@@ -62,6 +66,9 @@ rowKey w = ruleKey (w .number) (w .sequence)
 abbrev pub signedKey : Rule → ℕ
 signedKey r = signKey (r .number) (r .sequence) (r .sign)
 
+abbrev pub typedKey : Rule → ℕ
+typedKey r = typeKey (r .number) (r .sign)
+
 -- the sizes of the tables
 abbrev pub codeKeys : ℕ
 codeKeys = 40000
@@ -71,6 +78,9 @@ ruleKeys = 10000
 
 abbrev pub signKeys : ℕ
 signKeys = 30000
+
+abbrev pub typeKeys : ℕ
+typeKeys = 300
 
 -- ---- 1. the codes that the question's party, account and security bear on the day
 
@@ -111,9 +121,13 @@ testAt [] i v = false
 testAt (f ∷ fs) zero v = f v
 testAt (f ∷ fs) (suc i) v = testAt fs i v
 
--- each of the ten values is empty or met
+-- a value that is empty, or met at its criterion
+abbrev pub valueMet : List (ℕ → Bool) → ℕ → ℕ → Bool
+valueMet fs i v = eqb v 0 || testAt fs i v
+
+-- each of the ten
 unfoldable pub valuesMet : List (ℕ → Bool) → List ℕ → Bool
-valuesMet fs vs = allBelow (λ i. eqb (getD vs i 0) 0 || testAt fs i (getD vs i 0)) 10
+valuesMet fs vs = allBelow (λ i. valueMet fs i (getD vs i 0)) 10
 
 unfoldable pub rowMatches : Question → (ℕ → Bool) → Row → Bool
 rowMatches q codes w = eqb (w .object) (q .object) && valuesMet (tests q codes) (w .values)
@@ -142,9 +156,37 @@ unfoldable pub rulesMatched : List ℕ → Question → (ℕ → Bool) → ℕ �
 rulesMatched b q rows =
     keys (λ r. r .csd) (q .csd) (ruleAt b) signedKey (ruleMatches q rows) signKeys 512
 
--- ---- 4. the rules of a type, looked through in rising sequence
+-- ---- 4. the signs of which a rule of a type matches
 
--- the rule of a type at a sequence, by the marks of its two signs
+-- the table of signs, after the rule at place i
+abbrev pub markSign : List ℕ → Question → (ℕ → Bool) → ℕ → List ℕ → List ℕ
+markSign b q rows i t =
+    afterPlace (λ r. r .csd) (q .csd) typedKey (ruleMatches q rows) (λ r m. 1) (ruleAt b i) t
+
+unfoldable pub signsMatched : List ℕ → Question → (ℕ → Bool) → ℕ → Bool
+signsMatched b q rows =
+    keys (λ r. r .csd) (q .csd) (ruleAt b) typedKey (ruleMatches q rows) typeKeys 512
+
+-- ---- 5. the lowest type of each processing
+
+-- a current type, of which a positive rule matches and no negative one does
+unfoldable pub typeApplies : Question → (ℕ → Bool) → RestrictionType → Bool
+typeApplies q signs t =
+    (eqb (t .object) (q .object) && covers (t .first) (t .last) (q .day))
+    && (signs (typeKey (t .number) positive) && not (signs (typeKey (t .number) negative)))
+
+-- the lowest type of each processing, after the type at place i
+abbrev pub nameType : List ℕ → Question → (ℕ → Bool) → ℕ → List ℕ → List ℕ
+nameType b q signs i n =
+    afterPlace (λ t. t .csd) (q .csd) (λ t. t .processing) (typeApplies q signs) (λ t m. lesser (t .number) m) (typeAt b i) n
+
+unfoldable pub typesNamed : List ℕ → Question → (ℕ → Bool) → ℕ → ℕ
+typesNamed b q signs =
+    leasts (λ t. t .csd) (q .csd) (typeAt b) (λ t. t .processing) (typeApplies q signs) (λ t. t .number) 4 128
+
+-- ---- 6. the rules of a type that is named, looked through in rising sequence
+
+-- the rule of a type at a sequence, by the marks of its two signs; a sound book has one rule there at most
 abbrev pub judgedRule : (ℕ → Bool) → ℕ → ℕ → Judged
 judgedRule rules type s = record {
   sequence = s;
@@ -162,32 +204,15 @@ pub record Listed (rules : ℕ → Bool) (type n : ℕ) (t : List Judged) : Type
   pub none : getD t 0 noRule ≡ noRule
   pub each : (s : ℕ) → 1 ≤ s → s < n → getD t s noRule ≡ judgedRule rules type s
 
--- the first rule of that type and sign that matches, 0 where none does
-unfoldable pub firstRule : (ℕ → Bool) → ℕ → ℕ → ℕ
-firstRule rules type sign = leastBelow (λ s. cond (rules (signKey type s sign)) s 0) 100
-
--- ---- 5. the lowest type of each processing
-
--- a current type, of which a positive rule matches and no negative one does
-unfoldable pub typeApplies : Question → (ℕ → Bool) → RestrictionType → Bool
-typeApplies q rules t =
-    (eqb (t .object) (q .object) && covers (t .first) (t .last) (q .day))
-    && (not (eqb (firstRule rules (t .number) positive) 0) && eqb (firstRule rules (t .number) negative) 0)
-
--- the lowest type of each processing, after the type at place i
-abbrev pub nameType : List ℕ → Question → (ℕ → Bool) → ℕ → List ℕ → List ℕ
-nameType b q rules i n =
-    afterPlace (λ t. t .csd) (q .csd) (λ t. t .processing) (typeApplies q rules) (λ t m. lesser (t .number) m) (typeAt b i) n
-
-unfoldable pub typesNamed : List ℕ → Question → (ℕ → Bool) → ℕ → ℕ
-typesNamed b q rules =
-    leasts (λ t. t .csd) (q .csd) (typeAt b) (λ t. t .processing) (typeApplies q rules) (λ t. t .number) 4 128
+-- the first positive rule of that type that matches, 0 where none does
+unfoldable pub firstRule : (ℕ → Bool) → ℕ → ℕ
+firstRule rules type = leastBelow (λ s. cond (rules (signKey type s positive)) s 0) 100
 
 -- ---- the verdict
 
 -- the type, if any, with its deciding rule
 unfoldable pub decided : (ℕ → Bool) → ℕ → Deciding
-decided rules type = by type (cond (eqb type 0) 0 (firstRule rules type positive))
+decided rules type = by type (cond (eqb type 0) 0 (firstRule rules type))
 
 -- by the type named for each processing, 0 for none: a rejected instruction shows no hold
 unfoldable pub verdict : (ℕ → Bool) → (ℕ → ℕ) → Verdict
@@ -202,6 +227,10 @@ verdict rules named = record {
 abbrev pub rulesOn : List ℕ → Question → ℕ → Bool
 rulesOn b q = rulesMatched b q (rowsMatched b q (codesBorne b q))
 
+-- the signs of each type of which a rule matches, by the book's bytes
+abbrev pub signsOn : List ℕ → Question → ℕ → Bool
+signsOn b q = signsMatched b q (rowsMatched b q (codesBorne b q))
+
 -- the verdict, by the book's bytes
 unfoldable pub judgedBy : List ℕ → Question → Verdict
-judgedBy b q = verdict (rulesOn b q) (typesNamed b q (rulesOn b q))
+judgedBy b q = verdict (rulesOn b q) (typesNamed b q (signsOn b q))

@@ -1,13 +1,12 @@
-// A question judged over the lent book in one pass over each table, by tables of numbers that are addressed by key (document 01, 'How a
-// question is judged'). A place of another depository is passed over by its first byte.
+// A question judged over the lent book in one pass over each table, two over the rules, by tables of numbers that are addressed by key
+// (document 01, 'How a question is judged'). A place of another depository is passed over by its first byte.
 ghost use mathlib.Core.Path.{_≡_};
 ghost use mathlib.Core.Bool.{_&&_, _||_, not, cond};
 ghost use lib.ListN.{set, getD};
 ghost use Rattle.tables.specs.Count.{lesser};
 ghost use Rattle.tables.specs.Keyed.{marked, Blank};
-ghost use Rattle.meaning.specs.Records.{positive, negative};
 ghost use Rattle.meaning.specs.Judging.{covers};
-ghost use Rattle.judge.specs.Stages.{codeKey, ruleKey, signKey, codeKeys, ruleKeys, signKeys, sought, borneBy, markCode, codesBorne, tests, testAt, valuesMet, rowMatches, markRow, rowsMatched, ruleMatches, markRule, rulesMatched, judgedRule, noneListed, Listed, firstRule, typeApplies, nameType, typesNamed, decided, verdict, judgedBy};
+ghost use Rattle.judge.specs.Stages.{codeKey, ruleKey, signKey, typeKey, codeKeys, ruleKeys, signKeys, typeKeys, sought, borneBy, markCode, codesBorne, tests, testAt, valueMet, valuesMet, rowMatches, markRow, rowsMatched, ruleMatches, markRule, rulesMatched, markSign, signsMatched, typeApplies, nameType, typesNamed, judgedRule, noneListed, Listed, firstRule, decided, verdict, judgedBy};
 use meaning::Deciding;
 use meaning::Verdict;
 use places::Period;
@@ -104,6 +103,12 @@ fn sign_key(number: u8, sequence: u16, sign: u8) -> usize
     (number as usize * 100 + sequence as usize) * 3 + sign as usize
 }
 
+fn type_key(number: u8, sign: u8) -> usize
+    ensures { λ r. ⌜ r ≡ typeKey number sign ⌝ }
+{
+    number as usize * 3 + sign as usize
+}
+
 fn processing_key(processing: u8) -> usize
     ensures { λ r. ⌜ r ≡ processing ⌝ }
 {
@@ -128,6 +133,12 @@ fn no_rules() -> [u8; 30000]
     ensures { λ r. ⌜ Blank signKeys r ⌝ }
 {
     [0; 30000]
+}
+
+fn no_signs() -> [u8; 300]
+    ensures { λ r. ⌜ Blank typeKeys r ⌝ }
+{
+    [0; 300]
 }
 
 // No type for any processing, 0 to 3.
@@ -232,6 +243,13 @@ fn criterion_met(i: u8, v: u32, q: Question, codes: &[u8]) -> bool
     }
 }
 
+// Whether a value is empty or met.
+fn value_met(i: u8, v: u32, q: Question, codes: &[u8]) -> bool
+    ensures { λ r. ⌜ r ≡ valueMet (tests q (marked (now (codes .entry)))) i v ⌝ }
+{
+    or(v == 0, criterion_met(i, v, q, codes))
+}
+
 // Whether each filled value is met.
 fn values_met(values: [u32; 10], q: Question, codes: &[u8]) -> bool
     ensures { λ r. ⌜ r ≡ valuesMet (tests q (marked (now (codes .entry)))) values ⌝ }
@@ -239,7 +257,7 @@ fn values_met(values: [u32; 10], q: Question, codes: &[u8]) -> bool
     let mut met = true;
     for i in 0..10 {
         let v = values[i as usize];
-        met = and(met, or(v == 0, criterion_met(i, v, q, codes)));
+        met = and(met, value_met(i, v, q, codes));
     }
     met
 }
@@ -310,9 +328,69 @@ fn rules_matched(b: &[u8], q: Question, rows: &[u8]) -> [u8; 30000]
     t
 }
 
-// 4. The rules of a type, looked through in rising sequence.
+// 4. The signs of which a rule of a type matches.
 
-// A rule of a type as judged, by the marks of its sequence: a sound book has one rule, so one mark at most.
+// Marks the sign of the rule at a place for its type, if the rule matches.
+fn mark_sign(t: &mut [u8], b: &[u8], q: Question, rows: &[u8], i: u16)
+    ensures { λ _. ⌜ now (t .exit) ≡ markSign (now (b .entry)) q (marked (now (rows .entry))) i (now (t .entry)) ⌝ }
+{
+    if places::rule_csd(b, i) == q.csd {
+        let r = places::rule_at(b, i);
+        let matched = rule_matches(q, rows, r);
+        store(t, type_key(r.number, r.sign), matched, 1);
+    }
+}
+
+fn signs_matched(b: &[u8], q: Question, rows: &[u8]) -> [u8; 300]
+    ensures { λ r. ⌜ marked r ≡ signsMatched (now (b .entry)) q (marked (now (rows .entry))) ⌝ }
+{
+    let mut t = no_signs();
+    for i in 0..Rule::PLACES {
+        mark_sign(&mut t, b, q, rows, i);
+    }
+    t
+}
+
+// 5. The lowest type of each processing.
+
+// A current type, of which a positive rule matches and no negative one does, wherever it stands in sequence.
+fn type_applies(q: Question, signs: &[u8], t: RestrictionType) -> bool
+    ensures { λ r. ⌜ r ≡ typeApplies q (marked (now (signs .entry))) t ⌝ }
+{
+    let current = covers(t.first, t.last, q.day);
+    let positive = is_marked(signs, type_key(t.number, 1));
+    let negative = is_marked(signs, type_key(t.number, 2));
+    and(
+        and(t.object == q.object, current),
+        and(positive, no(negative)),
+    )
+}
+
+// Keeps the type at a place, if it applies and is the lowest of its processing so far.
+fn name_type(t: &mut [u8], b: &[u8], q: Question, signs: &[u8], i: u16)
+    ensures { λ _. ⌜ now (t .exit) ≡ nameType (now (b .entry)) q (marked (now (signs .entry))) i (now (t .entry)) ⌝ }
+{
+    if places::type_csd(b, i) == q.csd {
+        let r = places::type_at(b, i);
+        let k = processing_key(r.processing);
+        let lowest = lower(t, k, r.number);
+        store(t, k, type_applies(q, signs, r), lowest);
+    }
+}
+
+fn types_named(b: &[u8], q: Question, signs: &[u8]) -> [u8; 4]
+    ensures { λ r. ⌜ (λ k. getD r k 0) ≡ typesNamed (now (b .entry)) q (marked (now (signs .entry))) ⌝ }
+{
+    let mut t = no_types();
+    for i in 0..RestrictionType::PLACES {
+        name_type(&mut t, b, q, signs, i);
+    }
+    t
+}
+
+// 6. The rules of a type that is named, looked through in rising sequence.
+
+// The rule of a type at a sequence, as judged. A sound book has one rule there at most, so one mark.
 fn judged_rule(rules: &[u8], number: u8, sequence: u8) -> Judged
     ensures { λ r. ⌜ r ≡ judgedRule (marked (now (rules .entry))) number sequence ⌝ }
 {
@@ -326,6 +404,7 @@ fn judged_rule(rules: &[u8], number: u8, sequence: u8) -> Judged
     }
 }
 
+// A list without a rule.
 fn none_listed() -> [Judged; 100]
     ensures { λ r. ⌜ r ≡ noneListed ⌝ }
 {
@@ -337,7 +416,7 @@ fn none_listed() -> [Judged; 100]
     [none; 100]
 }
 
-// The rules of a type by sequence. No rule has sequence 0.
+// The rules of a type, each at the place of its sequence. No rule has sequence 0.
 fn rules_listed(rules: &[u8], number: u8) -> [Judged; 100]
     ensures { λ r. ⌜ Listed (marked (now (rules .entry))) number 100 r ⌝ }
 {
@@ -350,61 +429,12 @@ fn rules_listed(rules: &[u8], number: u8) -> [Judged; 100]
 
 // The first positive rule of a type that matches, 0 where none does.
 fn first_rule(rules: &[u8], number: u8) -> u8
-    ensures { λ r. ⌜ r ≡ firstRule (marked (now (rules .entry))) number positive ⌝ }
+    ensures { λ r. ⌜ r ≡ firstRule (marked (now (rules .entry))) number ⌝ }
 {
     match rules::first_of(rules_listed(rules, number)) {
         First::At(sequence) => sequence,
         First::Nothing => 0,
     }
-}
-
-// The first negative rule of a type that matches, 0 where none does.
-fn first_negative(rules: &[u8], number: u8) -> u8
-    ensures { λ r. ⌜ r ≡ firstRule (marked (now (rules .entry))) number negative ⌝ }
-{
-    let mut x: u8 = 0;
-    for s in 0..100 {
-        let key = sign_key(number, s as u16, 2);
-        x = lesser(pick(is_marked(rules, key), s, 0), x);
-    }
-    x
-}
-
-// 5. The lowest type of each processing.
-
-// A current type, of which a positive rule matches and no negative one does, wherever it stands in sequence.
-fn type_applies(q: Question, rules: &[u8], t: RestrictionType) -> bool
-    ensures { λ r. ⌜ r ≡ typeApplies q (marked (now (rules .entry))) t ⌝ }
-{
-    if and(t.object == q.object, covers(t.first, t.last, q.day)) {
-        let positive = first_rule(rules, t.number);
-        let negative = first_negative(rules, t.number);
-        and(no(positive == 0), negative == 0)
-    } else {
-        false
-    }
-}
-
-// Keeps the type at a place, if it applies and is the lowest of its processing so far.
-fn name_type(t: &mut [u8], b: &[u8], q: Question, rules: &[u8], i: u16)
-    ensures { λ _. ⌜ now (t .exit) ≡ nameType (now (b .entry)) q (marked (now (rules .entry))) i (now (t .entry)) ⌝ }
-{
-    if places::type_csd(b, i) == q.csd {
-        let r = places::type_at(b, i);
-        let k = processing_key(r.processing);
-        let lowest = lower(t, k, r.number);
-        store(t, k, type_applies(q, rules, r), lowest);
-    }
-}
-
-fn types_named(b: &[u8], q: Question, rules: &[u8]) -> [u8; 4]
-    ensures { λ r. ⌜ (λ k. getD r k 0) ≡ typesNamed (now (b .entry)) q (marked (now (rules .entry))) ⌝ }
-{
-    let mut t = no_types();
-    for i in 0..RestrictionType::PLACES {
-        name_type(&mut t, b, q, rules, i);
-    }
-    t
 }
 
 // A type, if any, with its deciding rule.
@@ -446,6 +476,7 @@ pub fn judge(book: &[u8], q: Question) -> Verdict
     let codes = codes_borne(book, q);
     let rows = rows_matched(book, q, &codes);
     let rules = rules_matched(book, q, &rows);
-    let named = types_named(book, q, &rules);
+    let signs = signs_matched(book, q, &rows);
+    let named = types_named(book, q, &signs);
     verdict(&rules, &named)
 }

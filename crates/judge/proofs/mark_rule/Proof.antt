@@ -1,4 +1,5 @@
--- `judge::mark_rule` meets its contract. Assumes nothing.
+-- `judge::mark_rule` meets its contract; facts are named, so that a wrong one is refused for certain. Assumes nothing.
+use mathlib.Core.Path.{refl}
 use borrow.Author.Needs.{needs}
 use Rattle.tables.proofs.Keying.{place-own, place-other}
 use Rattle.judge.proofs.mark_rule.Statement.{statement}
@@ -15,5 +16,15 @@ mark-rule-spec =
     (λ c κs. search needs)
     (λ c κs. search needs)
     (λ c. search needs)
-    (λ c. search place-own)
+    (λ c.
+    let keyed = c .before .before .before .before .before in
+    let own = keyed .before .before .before in
+    place-own _ _ _ _ _ _ _ _ _ _ _ _ _
+    (c .before .before .store .ensures)
+    (c .before .before .before .rule-matches .ensures)
+    refl
+    (keyed .sign-key .ensures)
+    (keyed .before .before .rule-at .ensures)
+    (own .before .before .rule-csd .ensures)
+    (own .if1 .taken))
     (λ c. search place-other))

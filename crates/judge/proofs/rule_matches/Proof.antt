@@ -1,11 +1,10 @@
 -- `judge::rule_matches` meets its contract. Assumes nothing.
 use borrow.Author.Needs.{needs}
-use Rattle.judge.specs.Stages.{ruleMatches}
+use Rattle.judge.proofs.Types.{rule-by}
 use Rattle.judge.proofs.rule_matches.Statement.{statement}
 use Rattle.judge.proofs.rule_matches.Tie as tie
 
 pub rule-matches-spec : {M : Type 1} → statement M
-unfolding ruleMatches
 rule-matches-spec =
     tie.close
     (tie.spec
@@ -14,4 +13,4 @@ rule-matches-spec =
     (λ c κs. search needs)
     (λ c κs. search needs)
     (λ c κs. search needs)
-    (λ c. cc))
+    (λ c. search rule-by))

@@ -1,6 +1,6 @@
 -- `judge::type_applies` meets its contract. Assumes nothing.
 use borrow.Author.Needs.{needs}
-use Rattle.judge.proofs.Types.{applies-in, applies-out}
+use Rattle.judge.proofs.Types.{applies-by}
 use Rattle.judge.proofs.type_applies.Statement.{statement}
 use Rattle.judge.proofs.type_applies.Tie as tie
 
@@ -14,5 +14,7 @@ type-applies-spec =
     (λ c κs. search needs)
     (λ c κs. search needs)
     (λ c κs. search needs)
-    (λ c. search applies-in)
-    (λ c. search applies-out))
+    (λ c κs. search needs)
+    (λ c κs. search needs)
+    (λ c κs. search needs)
+    (λ c. search applies-by))

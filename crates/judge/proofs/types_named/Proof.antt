@@ -12,10 +12,10 @@ use Rattle.judge.proofs.types_named.Statement.{statement}
 use Rattle.judge.proofs.types_named.Tie as tie
 
 abbrev Inv-loop : tie.InvT-loop
-Inv-loop b q rules t₀ i₀ t i = (i ≤ 128) × Keyed 4 (λ r. r .csd) (q .csd) (typeAt b) (λ t. t .processing) (typeApplies q (marked rules)) (λ t m. lesser (t .number) m) t i
+Inv-loop b q signs t₀ i₀ t i = (i ≤ 128) × Keyed 4 (λ r. r .csd) (q .csd) (typeAt b) (λ t. t .processing) (typeApplies q (marked signs)) (λ t m. lesser (t .number) m) t i
 
 abbrev μ-loop : tie.MeasureT-loop
-μ-loop b q rules t₀ i₀ t i = 128 - i
+μ-loop b q signs t₀ i₀ t i = 128 - i
 
 pub types-named-spec : {M : Type 1} → statement M
 unfolding typesNamed

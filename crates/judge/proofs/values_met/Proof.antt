@@ -1,20 +1,18 @@
 -- `judge::values_met` meets its contract. Assumes nothing.
 use Prim.Native.Nat.{_-_, _≤_}
 use mathlib.Core.Path.{_≡_}
-use mathlib.Core.Bool.{_||_}
-use lib.Dec.{eqb}
 use lib.ListN.{getD}
 use native.Mathlib.Omega.{arith}
 use borrow.Author.Needs.{needs}
 use Rattle.tables.specs.Count.{allBelow}
 use Rattle.tables.specs.Keyed.{marked}
 use Rattle.tables.proofs.Counts.{all-none, all-more}
-use Rattle.judge.specs.Stages.{tests, testAt, valuesMet}
+use Rattle.judge.specs.Stages.{tests, valueMet, valuesMet}
 use Rattle.judge.proofs.values_met.Statement.{statement}
 use Rattle.judge.proofs.values_met.Tie as tie
 
 abbrev Inv-loop : tie.InvT-loop
-Inv-loop q codes values met₀ i₀ met i = (i ≤ 10) × (met ≡ allBelow (λ k. eqb (getD values k 0) 0 || testAt (tests q (marked codes)) k (getD values k 0)) i)
+Inv-loop q codes values met₀ i₀ met i = (i ≤ 10) × (met ≡ allBelow (λ k. valueMet (tests q (marked codes)) k (getD values k 0)) i)
 
 abbrev μ-loop : tie.MeasureT-loop
 μ-loop q codes values met₀ i₀ met i = 10 - i
@@ -30,7 +28,6 @@ values-met-spec =
     (λ c. search needs)
     (λ c. search needs)
     (λ c. search needs)
-    (λ c κs. search needs)
     (λ c κs. search needs)
     (λ c κs. search needs)
     (λ c. omega arith)

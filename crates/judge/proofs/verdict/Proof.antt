@@ -1,4 +1,4 @@
--- `judge::verdict` meets its contract. Assumes nothing.
+-- `judge::verdict` meets its contract; facts are named, so that a wrong one is refused for certain. Assumes nothing.
 use borrow.Author.Needs.{needs}
 use Rattle.judge.proofs.Types.{verdict-by}
 use Rattle.judge.proofs.verdict.Statement.{statement}
@@ -17,4 +17,16 @@ verdict-spec =
     (λ c κs. search needs)
     (λ c κs. search needs)
     (λ c κs. search needs)
-    (λ c. search verdict-by))
+    (λ c.
+    let told = c .before .before .before in
+    let shown = told .before .before .before in
+    verdict-by _ _ _ _ _ _ _ _ _ _ _
+    (c .decided3 .ensures)
+    (c .before .decided2 .ensures)
+    (c .before .before .decided .ensures)
+    (told .no .ensures)
+    (told .before .pick2 .ensures)
+    (told .before .before .look3 .ensures)
+    (shown .pick .ensures)
+    (shown .before .look2 .ensures)
+    (shown .before .before .look .ensures)))

@@ -1,0 +1,33 @@
+-- `judge::signs_matched` meets its contract. Assumes nothing.
+use Prim.Native.Nat.{_-_, _≤_}
+use mathlib.Core.Path.{_≡_}
+use native.Mathlib.Omega.{arith}
+use borrow.Author.Needs.{needs}
+use Rattle.tables.specs.Keyed.{marked, Keyed}
+use Rattle.tables.proofs.Keying.{keyed-none, keyed-more, keyed-marks}
+use Rattle.places.specs.Layout.{ruleAt}
+use Rattle.judge.specs.Stages.{typedKey, typeKeys, ruleMatches, signsMatched}
+use Rattle.judge.proofs.signs_matched.Statement.{statement}
+use Rattle.judge.proofs.signs_matched.Tie as tie
+
+abbrev Inv-loop : tie.InvT-loop
+Inv-loop b q rows t₀ i₀ t i = (i ≤ 512) × Keyed typeKeys (λ r. r .csd) (q .csd) (ruleAt b) typedKey (ruleMatches q (marked rows)) (λ r m. 1) t i
+
+abbrev μ-loop : tie.MeasureT-loop
+μ-loop b q rows t₀ i₀ t i = 512 - i
+
+pub signs-matched-spec : {M : Type 1} → statement M
+unfolding signsMatched
+signs-matched-spec =
+    tie.close
+    (tie.spec
+    Inv-loop
+    μ-loop
+    (λ c κs. search needs)
+    (λ c. (search needs, search keyed-none))
+    (λ c. search needs)
+    (λ c κs. search needs)
+    (λ c. omega arith)
+    (λ c. omega arith)
+    (λ c. (omega arith, search keyed-more))
+    (λ c. let e : c .before .loop .i ≡ 512 = omega arith in search keyed-marks))
