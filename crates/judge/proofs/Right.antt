@@ -1,5 +1,5 @@
 -- Over a sound lone book, what is judged by the book's bytes is the written meaning's verdict.
-use Prim.Native.Nat.{ℕ, zero, suc, _≤_, _<_}
+use Prim.Native.Nat.{ℕ, zero, suc, _<_}
 use mathlib.Core.Path.{_≡_, refl, ap, sym, _∙_, fun-ext}
 use mathlib.Core.Bool.{Bool, true, false, _&&_, not, cond, and-true, and-false, and-comm}
 use mathlib.Core.List.{List, [], _∷_}

@@ -9,12 +9,10 @@ use borrow.Author.Tests.{ne-eqb}
 use lib.ListN.{length, getD, drop}
 use Rattle.tables.specs.Count.{lesser}
 use Rattle.tables.specs.Below.{leastBelow}
-use Rattle.tables.proofs.Below.{least-none, least-more, lesser-only, lesser-high}
+use Rattle.tables.proofs.Below.{least-more, lesser-only, lesser-high}
 use Rattle.tables.proofs.Counts.{cases}
 use Rattle.rules.specs.Search.{noRule, mayDecide, firstPositive, sequenceOf}
 use Rattle.rules.specs.declared.Judged.{Judged}
-use Rattle.rules.specs.declared.First.{First}
-use Rattle.rules.specs.declared.First.the-variants.{At, Nothing}
 use Rattle.rules.proofs.Turns.{hits, misses, ended}
 
 -- One place more: l is the least sequence before place i, s what is found from it on, s′ what is found after it.
