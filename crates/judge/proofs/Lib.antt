@@ -1,3 +1,4 @@
+pub mod Judging
 pub mod Rows
 pub mod Types
 pub mod Listing

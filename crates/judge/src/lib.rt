@@ -212,14 +212,13 @@ fn mark_code(t: &mut [u8], b: &[u8], q: Question, i: u16)
     }
 }
 
-fn codes_borne(b: &[u8], q: Question) -> [u8; 40000]
-    ensures { λ r. ⌜ marked r ≡ codesBorne (now (b .entry)) q ⌝ }
+fn codes_borne(t: &mut [u8], b: &[u8], q: Question)
+    requires { ⌜ Blank codeKeys (now t) ⌝ }
+    ensures { λ _. ⌜ marked (now (t .exit)) ≡ codesBorne (now (b .entry)) q ⌝ }
 {
-    let mut t = no_codes();
     for i in 0..Period::PLACES {
-        mark_code(&mut t, b, q, i);
+        mark_code(t, b, q, i);
     }
-    t
 }
 
 // 2. The rules of which a row matches. A row fills exactly its rule's criteria, so its filled values tell which are tested.
@@ -285,14 +284,23 @@ fn mark_row(t: &mut [u8], b: &[u8], q: Question, codes: &[u8], i: u16)
     }
 }
 
-fn rows_matched(b: &[u8], q: Question, codes: &[u8]) -> [u8; 10000]
-    ensures { λ r. ⌜ marked r ≡ rowsMatched (now (b .entry)) q (marked (now (codes .entry))) ⌝ }
+fn rows_matched(t: &mut [u8], b: &[u8], q: Question, codes: &[u8])
+    requires { ⌜ Blank ruleKeys (now t) ⌝ }
+    ensures { λ _. ⌜ marked (now (t .exit)) ≡ rowsMatched (now (b .entry)) q (marked (now (codes .entry))) ⌝ }
 {
-    let mut t = no_rows();
     for i in 0..Row::PLACES {
-        mark_row(&mut t, b, q, codes, i);
+        mark_row(t, b, q, codes, i);
     }
-    t
+}
+
+// The first two stages: the table of codes is needed for the rows alone.
+fn rows_judged(t: &mut [u8], b: &[u8], q: Question)
+    requires { ⌜ Blank ruleKeys (now t) ⌝ }
+    ensures { λ _. ⌜ marked (now (t .exit)) ≡ rowsMatched (now (b .entry)) q (codesBorne (now (b .entry)) q) ⌝ }
+{
+    let mut codes = no_codes();
+    codes_borne(&mut codes, b, q);
+    rows_matched(t, b, q, &codes);
 }
 
 // 3. The rules of each sign that match.
@@ -318,14 +326,13 @@ fn mark_rule(t: &mut [u8], b: &[u8], q: Question, rows: &[u8], i: u16)
     }
 }
 
-fn rules_matched(b: &[u8], q: Question, rows: &[u8]) -> [u8; 30000]
-    ensures { λ r. ⌜ marked r ≡ rulesMatched (now (b .entry)) q (marked (now (rows .entry))) ⌝ }
+fn rules_matched(t: &mut [u8], b: &[u8], q: Question, rows: &[u8])
+    requires { ⌜ Blank signKeys (now t) ⌝ }
+    ensures { λ _. ⌜ marked (now (t .exit)) ≡ rulesMatched (now (b .entry)) q (marked (now (rows .entry))) ⌝ }
 {
-    let mut t = no_rules();
     for i in 0..Rule::PLACES {
-        mark_rule(&mut t, b, q, rows, i);
+        mark_rule(t, b, q, rows, i);
     }
-    t
 }
 
 // 4. The signs of which a rule of a type matches.
@@ -473,9 +480,10 @@ fn verdict(rules: &[u8], named: &[u8]) -> Verdict
 pub fn judge(book: &[u8], q: Question) -> Verdict
     ensures { λ r. ⌜ r ≡ judgedBy (now (book .entry)) q ⌝ }
 {
-    let codes = codes_borne(book, q);
-    let rows = rows_matched(book, q, &codes);
-    let rules = rules_matched(book, q, &rows);
+    let mut rows = no_rows();
+    rows_judged(&mut rows, book, q);
+    let mut rules = no_rules();
+    rules_matched(&mut rules, book, q, &rows);
     let signs = signs_matched(book, q, &rows);
     let named = types_named(book, q, &signs);
     verdict(&rules, &named)

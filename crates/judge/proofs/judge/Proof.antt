@@ -1,6 +1,6 @@
 -- `judge::judge` meets its contract. Assumes nothing.
-use borrow.Author.Needs.{needs}
 use Rattle.judge.specs.Stages.{judgedBy}
+use borrow.Author.Needs.{needs}
 use Rattle.judge.proofs.judge.Statement.{statement}
 use Rattle.judge.proofs.judge.Tie as tie
 
@@ -12,6 +12,8 @@ judge-spec =
     (λ c κs. search needs)
     (λ c. search needs)
     (λ c κs. search needs)
+    (λ c κs. search needs)
+    (λ c. search needs)
     (λ c. search needs)
     (λ c κs. search needs)
     (λ c. search needs)
