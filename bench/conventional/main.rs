@@ -1,0 +1,1087 @@
+// A conventional restriction pre-check, written from document 01 and READINGS.md alone.
+// It shares no code with crates/ and nothing about it is proved. It is built by
+//     rustc -O --edition 2021 main.rs
+// and run as `conventional flat|maps < LINES`.
+//
+// flat: four fixed tables of plain structs; soundness of the whole book is checked before every line.
+// maps: hash maps for each depository; soundness is never checked.
+
+use std::collections::{BTreeMap, HashMap, HashSet};
+use std::io::{self, BufRead, BufReader, BufWriter, Write};
+
+const CSDS: usize = 8;
+const TYPE_QUOTA: usize = 16;
+const RULE_QUOTA: usize = 64;
+const ROW_QUOTA: usize = 128;
+const PERIOD_QUOTA: usize = 128;
+
+const PARTY: u8 = 1;
+const ACCOUNT: u8 = 2;
+const SECURITY: u8 = 3;
+
+const POSITIVE: u8 = 1;
+const NEGATIVE: u8 = 2;
+
+// ---------------------------------------------------------------- records
+
+#[derive(Clone, Copy, Default, PartialEq, Eq)]
+struct Type {
+    csd: u8,
+    number: u8,
+    object: u8,
+    processing: u8,
+    first: u32,
+    last: u32,
+}
+
+#[derive(Clone, Copy, Default, PartialEq, Eq)]
+struct Rule {
+    csd: u8,
+    number: u8, // of its type
+    object: u8,
+    sequence: u8,
+    sign: u8,
+    criteria: u16,
+    first: u32,
+    last: u32,
+}
+
+// A value is 0 where it is empty. DELI and APMT are 1, RECE and FREE are 2.
+// Transaction and currency are their letters as a big-endian number.
+type Values = [u32; 10];
+
+#[derive(Clone, Copy, Default, PartialEq, Eq)]
+struct Row {
+    csd: u8,
+    number: u8,
+    object: u8,
+    sequence: u8,
+    values: Values,
+}
+
+#[derive(Clone, Copy, Default, PartialEq, Eq)]
+struct Period {
+    csd: u8,
+    kind: u8,
+    code: u16,
+    number: u32,
+    first: u32,
+    last: u32,
+}
+
+// What a rule is known by, without the depository.
+#[derive(Clone, Copy)]
+struct RuleKey {
+    number: u8,
+    object: u8,
+    sequence: u8,
+}
+
+struct Question {
+    csd: u8,
+    day: u32,
+    object: u8,
+    // Compared with a row's values; places 4 and 5 hold security and account, 6 to 8 are unused.
+    values: Values,
+    party: u32,
+    account: u32,
+    security: u32,
+}
+
+enum Line {
+    AddType { day: u32, record: Type },
+    EndType { csd: u8, day: u32, number: u8, object: u8, last: u32 },
+    AddRule { day: u32, record: Rule },
+    Reorder { csd: u8, rule: RuleKey, to: u8 },
+    DeleteRule { csd: u8, rule: RuleKey },
+    AddRow { record: Row },
+    DeleteRow { record: Row },
+    AddPeriod { day: u32, record: Period },
+    EndPeriod { day: u32, record: Period }, // its last is the new last
+    Ask(Question),
+}
+
+#[derive(Clone, Copy, Default)]
+struct Deciding {
+    number: u8,
+    sequence: u8,
+}
+
+enum Answer {
+    Kept,
+    Refused(u8),
+    // Rejection, validation hold, party hold; zeros where there is none.
+    Verdict([Deciding; 3]),
+}
+
+// ---------------------------------------------------------------- reading a line
+
+// A decimal number without a leading zero, from low to high.
+fn number(field: &[u8], low: u32, high: u32) -> Option<u32> {
+    if field.is_empty() || field.len() > 6 || field[0] == b'0' {
+        return None;
+    }
+    let mut n = 0;
+    for &b in field {
+        if !b.is_ascii_digit() {
+            return None;
+        }
+        n = n * 10 + u32::from(b - b'0');
+    }
+    (low <= n && n <= high).then_some(n)
+}
+
+fn small(field: &[u8], low: u8, high: u8) -> Option<u8> {
+    number(field, low.into(), high.into()).map(|n| n as u8)
+}
+
+fn real_day(day: u32) -> bool {
+    let (year, month, d) = (day / 10000, day / 100 % 100, day % 100);
+    let length = match month {
+        1 | 3 | 5 | 7 | 8 | 10 | 12 => 31,
+        4 | 6 | 9 | 11 => 30,
+        2 if year % 4 == 0 => 29,
+        2 => 28,
+        _ => 0,
+    };
+    (2000..=2099).contains(&year) && 1 <= d && d <= length
+}
+
+fn day(field: &[u8]) -> Option<u32> {
+    if field.len() != 8 || !field.iter().all(u8::is_ascii_digit) {
+        return None;
+    }
+    let n = field.iter().fold(0, |n, b| n * 10 + u32::from(b - b'0'));
+    real_day(n).then_some(n)
+}
+
+fn good_code(code: u32) -> bool {
+    (101..=9999).contains(&code) && code % 100 != 0
+}
+
+fn code(field: &[u8]) -> Option<u32> {
+    number(field, 101, 9999).filter(|&n| good_code(n))
+}
+
+fn letters(field: &[u8], count: usize) -> Option<u32> {
+    if field.len() != count || !field.iter().all(u8::is_ascii_uppercase) {
+        return None;
+    }
+    Some(field.iter().fold(0, |n, &b| n << 8 | u32::from(b)))
+}
+
+fn one_of(field: &[u8], one: &[u8], two: &[u8]) -> Option<u32> {
+    if field == one {
+        Some(1)
+    } else if field == two {
+        Some(2)
+    } else {
+        None
+    }
+}
+
+// The value of one filled criterion.
+fn value(criterion: usize, field: &[u8]) -> Option<u32> {
+    match criterion {
+        0 => number(field, 1, 3),
+        1 => one_of(field, b"DELI", b"RECE"),
+        2 => one_of(field, b"APMT", b"FREE"),
+        3 => letters(field, 4),
+        4 | 5 => number(field, 1, 999_999),
+        6..=8 => code(field),
+        _ => letters(field, 3),
+    }
+}
+
+fn value_or_empty(criterion: usize, field: &[u8]) -> Option<u32> {
+    if field.is_empty() {
+        Some(0)
+    } else {
+        value(criterion, field)
+    }
+}
+
+fn rule_key(f: &[&[u8]]) -> Option<RuleKey> {
+    Some(RuleKey { number: small(f[3], 1, 99)?, object: small(f[4], 1, 2)?, sequence: small(f[5], 1, 99)? })
+}
+
+// The fields of a line that has the right number of them; None is refusal 5.
+fn fields(letter: u8, f: &[&[u8]]) -> Option<Line> {
+    let csd = small(f[1], 1, 8)?;
+    let today = day(f[2])?;
+    let line = match letter {
+        b'T' => {
+            let record = Type {
+                csd,
+                number: small(f[3], 1, 99)?,
+                object: small(f[4], 1, 2)?,
+                processing: small(f[5], 1, 3)?,
+                first: day(f[6])?,
+                last: day(f[7])?,
+            };
+            if record.processing == 3 && record.object == 2 || record.first > record.last {
+                return None;
+            }
+            Line::AddType { day: today, record }
+        }
+        b'E' => {
+            let (number, object) = (small(f[3], 1, 99)?, small(f[4], 1, 2)?);
+            Line::EndType { csd, day: today, number, object, last: day(f[5])? }
+        }
+        b'R' => {
+            let key = rule_key(f)?;
+            let record = Rule {
+                csd,
+                number: key.number,
+                object: key.object,
+                sequence: key.sequence,
+                sign: match f[6] {
+                    b"P" => POSITIVE,
+                    b"N" => NEGATIVE,
+                    _ => return None,
+                },
+                criteria: number(f[7], 1, 1023)? as u16,
+                first: day(f[8])?,
+                last: day(f[9])?,
+            };
+            if record.first > record.last {
+                return None;
+            }
+            Line::AddRule { day: today, record }
+        }
+        b'O' => Line::Reorder { csd, rule: rule_key(f)?, to: small(f[6], 1, 99)? },
+        b'D' => Line::DeleteRule { csd, rule: rule_key(f)? },
+        b'M' | b'N' => {
+            let key = rule_key(f)?;
+            let mut values = [0; 10];
+            for (i, v) in values.iter_mut().enumerate() {
+                *v = value_or_empty(i, f[6 + i])?;
+            }
+            let record = Row { csd, number: key.number, object: key.object, sequence: key.sequence, values };
+            if letter == b'M' {
+                Line::AddRow { record }
+            } else {
+                Line::DeleteRow { record }
+            }
+        }
+        b'A' | b'Z' => {
+            let record = Period {
+                csd,
+                kind: match f[3] {
+                    b"P" => PARTY,
+                    b"A" => ACCOUNT,
+                    b"S" => SECURITY,
+                    _ => return None,
+                },
+                number: number(f[4], 1, 999_999)?,
+                code: code(f[5])? as u16,
+                first: day(f[6])?,
+                last: day(f[7])?,
+            };
+            if letter == b'Z' {
+                Line::EndPeriod { day: today, record }
+            } else if record.first > record.last {
+                return None;
+            } else {
+                Line::AddPeriod { day: today, record }
+            }
+        }
+        _ => {
+            let object = small(f[3], 1, 2)?;
+            let mut values = [0; 10];
+            values[0] = value(0, f[4])?;
+            if object == 1 {
+                values[1] = value(1, f[5])?;
+                values[2] = value(2, f[6])?;
+            } else if !f[5].is_empty() || !f[6].is_empty() {
+                return None;
+            }
+            values[3] = value_or_empty(3, f[7])?;
+            values[9] = value_or_empty(9, f[8])?;
+            let party = number(f[9], 1, 999_999)?;
+            let account = number(f[10], 1, 999_999)?;
+            let security = number(f[11], 1, 999_999)?;
+            values[4] = security;
+            values[5] = account;
+            Line::Ask(Question { csd, day: today, object, values, party, account, security })
+        }
+    };
+    Some(line)
+}
+
+// Refusals 2 to 5.
+fn read(bytes: &[u8]) -> Result<Line, u8> {
+    let allowed = |b: &u8| b.is_ascii_digit() || b.is_ascii_uppercase() || *b == b',';
+    if bytes.is_empty() || bytes.len() > 80 || !bytes.iter().all(allowed) {
+        return Err(2);
+    }
+    // At most 16 fields are kept; all are counted.
+    let mut kept: [&[u8]; 16] = [b""; 16];
+    let mut count = 0;
+    for field in bytes.split(|&b| b == b',') {
+        if count < kept.len() {
+            kept[count] = field;
+        }
+        count += 1;
+    }
+    if kept[0].len() != 1 {
+        return Err(3);
+    }
+    let letter = kept[0][0];
+    let wanted = 1 + match letter {
+        b'T' | b'A' | b'Z' => 7,
+        b'E' | b'D' => 5,
+        b'R' => 9,
+        b'O' => 6,
+        b'M' | b'N' => 15,
+        b'Q' => 11,
+        _ => return Err(3),
+    };
+    if count != wanted {
+        return Err(4);
+    }
+    fields(letter, &kept[..count]).ok_or(5)
+}
+
+// ---------------------------------------------------------------- shared by both books
+
+trait Book {
+    fn answer(&mut self, bytes: &[u8]) -> Answer;
+}
+
+fn filled(values: &Values) -> u16 {
+    (0..10).fold(0, |set, i| set | u16::from(values[i] != 0) << i)
+}
+
+fn matches(values: &Values, q: &Question, covered: impl Fn(u8, u32, u32) -> bool) -> bool {
+    values.iter().enumerate().all(|(i, &v)| {
+        v == 0
+            || match i {
+                6 => covered(PARTY, q.party, v),
+                7 => covered(ACCOUNT, q.account, v),
+                8 => covered(SECURITY, q.security, v),
+                _ => v == q.values[i],
+            }
+    })
+}
+
+// Rejection comes before the holds and hides them.
+fn verdict(mut decided: [Deciding; 3]) -> Answer {
+    if decided[0].number != 0 {
+        decided[1] = Deciding::default();
+        decided[2] = Deciding::default();
+    }
+    Answer::Verdict(decided)
+}
+
+// ---------------------------------------------------------------- flat
+
+struct Flat {
+    types: Vec<Type>,
+    rules: Vec<Rule>,
+    rows: Vec<Row>,
+    periods: Vec<Period>,
+    // Room for the sorted copies that the soundness check makes.
+    sorted_types: Vec<(u8, u8, u8)>,
+    sorted_rules: Vec<((u8, u8, u8, u8), u16)>,
+    sorted_rows: Vec<(u8, u8, u8, u8, Values)>,
+    sorted_periods: Vec<((u8, u8, u32, u16), u32, u32)>,
+}
+
+fn ranges_of_type(t: &Type) -> bool {
+    (1..=8).contains(&t.csd)
+        && (1..=99).contains(&t.number)
+        && (1..=2).contains(&t.object)
+        && (1..=3).contains(&t.processing)
+        && !(t.processing == 3 && t.object == 2)
+        && real_day(t.first)
+        && real_day(t.last)
+        && t.first <= t.last
+}
+
+fn ranges_of_key(csd: u8, number: u8, object: u8, sequence: u8) -> bool {
+    (1..=8).contains(&csd) && (1..=99).contains(&number) && (1..=2).contains(&object) && (1..=99).contains(&sequence)
+}
+
+fn ranges_of_rule(r: &Rule) -> bool {
+    ranges_of_key(r.csd, r.number, r.object, r.sequence)
+        && (r.sign == POSITIVE || r.sign == NEGATIVE)
+        && (1..=1023).contains(&r.criteria)
+        && real_day(r.first)
+        && real_day(r.last)
+        && r.first <= r.last
+}
+
+fn all_letters(v: u32, count: u32) -> bool {
+    (0..4).all(|i| {
+        let b = (v >> (8 * i)) as u8;
+        if i < count {
+            b.is_ascii_uppercase()
+        } else {
+            b == 0
+        }
+    })
+}
+
+fn ranges_of_row(r: &Row) -> bool {
+    ranges_of_key(r.csd, r.number, r.object, r.sequence)
+        && r.values.iter().enumerate().all(|(i, &v)| {
+            v == 0
+                || match i {
+                    0 => v <= 3,
+                    1 | 2 => v <= 2,
+                    3 => all_letters(v, 4),
+                    4 | 5 => v <= 999_999,
+                    6..=8 => good_code(v),
+                    _ => all_letters(v, 3),
+                }
+        })
+}
+
+fn ranges_of_period(p: &Period) -> bool {
+    (1..=8).contains(&p.csd)
+        && (1..=3).contains(&p.kind)
+        && (1..=999_999).contains(&p.number)
+        && good_code(p.code.into())
+        && real_day(p.first)
+        && real_day(p.last)
+        && p.first <= p.last
+}
+
+fn no_twins<T: PartialEq>(sorted: &[T]) -> bool {
+    sorted.windows(2).all(|w| w[0] != w[1])
+}
+
+fn free_place<T: Default + PartialEq>(table: &[T]) -> Option<usize> {
+    table.iter().position(|r| *r == T::default())
+}
+
+impl Flat {
+    fn new() -> Flat {
+        Flat {
+            types: vec![Type::default(); CSDS * TYPE_QUOTA],
+            rules: vec![Rule::default(); CSDS * RULE_QUOTA],
+            rows: vec![Row::default(); CSDS * ROW_QUOTA],
+            periods: vec![Period::default(); CSDS * PERIOD_QUOTA],
+            sorted_types: Vec::new(),
+            sorted_rules: Vec::new(),
+            sorted_rows: Vec::new(),
+            sorted_periods: Vec::new(),
+        }
+    }
+
+    // Every place is free (all zero) or a record that obeys document 01. Sorts, so it is near-linear.
+    fn sound(&mut self) -> bool {
+        if self.types.len() != CSDS * TYPE_QUOTA
+            || self.rules.len() != CSDS * RULE_QUOTA
+            || self.rows.len() != CSDS * ROW_QUOTA
+            || self.periods.len() != CSDS * PERIOD_QUOTA
+        {
+            return false;
+        }
+        let (mut types, mut rules, mut rows, mut periods) = ([0; 9], [0; 9], [0; 9], [0; 9]);
+
+        self.sorted_types.clear();
+        for t in self.types.iter().filter(|t| **t != Type::default()) {
+            if !ranges_of_type(t) {
+                return false;
+            }
+            types[t.csd as usize] += 1;
+            self.sorted_types.push((t.csd, t.number, t.object));
+        }
+
+        self.sorted_rules.clear();
+        for r in self.rules.iter().filter(|r| **r != Rule::default()) {
+            if !ranges_of_rule(r) {
+                return false;
+            }
+            rules[r.csd as usize] += 1;
+            self.sorted_rules.push(((r.csd, r.number, r.object, r.sequence), r.criteria));
+        }
+
+        self.sorted_rows.clear();
+        for r in self.rows.iter().filter(|r| **r != Row::default()) {
+            if !ranges_of_row(r) {
+                return false;
+            }
+            rows[r.csd as usize] += 1;
+            self.sorted_rows.push((r.csd, r.number, r.object, r.sequence, r.values));
+        }
+
+        self.sorted_periods.clear();
+        for p in self.periods.iter().filter(|p| **p != Period::default()) {
+            if !ranges_of_period(p) {
+                return false;
+            }
+            periods[p.csd as usize] += 1;
+            self.sorted_periods.push(((p.csd, p.kind, p.number, p.code / 100), p.first, p.last));
+        }
+
+        // Quotas.
+        if types.iter().any(|&n| n > TYPE_QUOTA)
+            || rules.iter().any(|&n| n > RULE_QUOTA)
+            || rows.iter().any(|&n| n > ROW_QUOTA)
+            || periods.iter().any(|&n| n > PERIOD_QUOTA)
+        {
+            return false;
+        }
+
+        // Keys and periods.
+        self.sorted_types.sort_unstable();
+        self.sorted_rules.sort_unstable();
+        self.sorted_rows.sort_unstable();
+        self.sorted_periods.sort_unstable();
+        if !no_twins(&self.sorted_types)
+            || self.sorted_rules.windows(2).any(|w| w[0].0 == w[1].0)
+            || !no_twins(&self.sorted_rows)
+            || self.sorted_periods.windows(2).any(|w| w[0].0 == w[1].0 && w[1].1 <= w[0].2)
+        {
+            return false;
+        }
+
+        // Every rule has its type, every row its rule with that rule's criteria filled.
+        // Both lists are sorted by the same key, so one pass over each is enough.
+        let mut i = 0;
+        for ((csd, number, object, _), _) in &self.sorted_rules {
+            let key = (*csd, *number, *object);
+            while i < self.sorted_types.len() && self.sorted_types[i] < key {
+                i += 1;
+            }
+            if self.sorted_types.get(i) != Some(&key) {
+                return false;
+            }
+        }
+        let mut i = 0;
+        for (csd, number, object, sequence, values) in &self.sorted_rows {
+            let key = (*csd, *number, *object, *sequence);
+            while i < self.sorted_rules.len() && self.sorted_rules[i].0 < key {
+                i += 1;
+            }
+            if self.sorted_rules.get(i) != Some(&(key, filled(values))) {
+                return false;
+            }
+        }
+        true
+    }
+
+    fn find_type(&self, csd: u8, number: u8, object: u8) -> Option<usize> {
+        self.types.iter().position(|t| t.csd == csd && t.number == number && t.object == object)
+    }
+
+    fn find_rule(&self, csd: u8, k: RuleKey) -> Option<usize> {
+        self.rules.iter().position(|r| {
+            r.csd == csd && r.number == k.number && r.object == k.object && r.sequence == k.sequence
+        })
+    }
+
+    fn rows_of(&self, csd: u8, k: RuleKey) -> impl Iterator<Item = &Row> {
+        self.rows.iter().filter(move |r| {
+            r.csd == csd && r.number == k.number && r.object == k.object && r.sequence == k.sequence
+        })
+    }
+
+    fn apply(&mut self, line: Line) -> Result<(), u8> {
+        match line {
+            Line::AddType { day, record } => {
+                if record.first <= day {
+                    return Err(6);
+                }
+                if self.find_type(record.csd, record.number, record.object).is_some() {
+                    return Err(8);
+                }
+                if self.types.iter().filter(|t| t.csd == record.csd).count() >= TYPE_QUOTA {
+                    return Err(10);
+                }
+                let place = free_place(&self.types).expect("room below the quota");
+                self.types[place] = record;
+            }
+            Line::EndType { csd, day, number, object, last } => {
+                if last < day {
+                    return Err(6);
+                }
+                let place = self.find_type(csd, number, object).ok_or(7)?;
+                let t = &mut self.types[place];
+                if last < t.first || last > t.last {
+                    return Err(9);
+                }
+                t.last = last;
+            }
+            Line::AddRule { day, record } => {
+                if record.first <= day {
+                    return Err(6);
+                }
+                self.find_type(record.csd, record.number, record.object).ok_or(7)?;
+                let key = RuleKey { number: record.number, object: record.object, sequence: record.sequence };
+                if self.find_rule(record.csd, key).is_some() {
+                    return Err(8);
+                }
+                if self.rules.iter().filter(|r| r.csd == record.csd).count() >= RULE_QUOTA {
+                    return Err(10);
+                }
+                let place = free_place(&self.rules).expect("room below the quota");
+                self.rules[place] = record;
+            }
+            Line::Reorder { csd, rule, to } => {
+                let place = self.find_rule(csd, rule).ok_or(7)?;
+                if self.find_rule(csd, RuleKey { sequence: to, ..rule }).is_some() {
+                    return Err(8);
+                }
+                self.rules[place].sequence = to;
+                for r in &mut self.rows {
+                    if r.csd == csd
+                        && r.number == rule.number
+                        && r.object == rule.object
+                        && r.sequence == rule.sequence
+                    {
+                        r.sequence = to;
+                    }
+                }
+            }
+            Line::DeleteRule { csd, rule } => {
+                let place = self.find_rule(csd, rule).ok_or(7)?;
+                if self.rows_of(csd, rule).next().is_some() {
+                    return Err(9);
+                }
+                self.rules[place] = Rule::default();
+            }
+            Line::AddRow { record } => {
+                let key = RuleKey { number: record.number, object: record.object, sequence: record.sequence };
+                let rule = self.find_rule(record.csd, key).ok_or(7)?;
+                if self.rows.contains(&record) {
+                    return Err(8);
+                }
+                if filled(&record.values) != self.rules[rule].criteria {
+                    return Err(9);
+                }
+                if self.rows.iter().filter(|r| r.csd == record.csd).count() >= ROW_QUOTA {
+                    return Err(10);
+                }
+                let place = free_place(&self.rows).expect("room below the quota");
+                self.rows[place] = record;
+            }
+            Line::DeleteRow { record } => {
+                let place = self.rows.iter().position(|r| *r == record).ok_or(7)?;
+                self.rows[place] = Row::default();
+            }
+            Line::AddPeriod { day, record } => {
+                if record.first <= day {
+                    return Err(6);
+                }
+                let clash = |p: &Period| {
+                    p.csd == record.csd
+                        && p.kind == record.kind
+                        && p.number == record.number
+                        && p.code / 100 == record.code / 100
+                        && p.first <= record.last
+                        && record.first <= p.last
+                };
+                if self.periods.iter().any(clash) {
+                    return Err(8);
+                }
+                if self.periods.iter().filter(|p| p.csd == record.csd).count() >= PERIOD_QUOTA {
+                    return Err(10);
+                }
+                let place = free_place(&self.periods).expect("room below the quota");
+                self.periods[place] = record;
+            }
+            Line::EndPeriod { day, record } => {
+                if record.last < day {
+                    return Err(6);
+                }
+                let named = |p: &&mut Period| Period { last: record.last, ..**p } == record;
+                let p = self.periods.iter_mut().find(named).ok_or(7)?;
+                if record.last < p.first || record.last > p.last {
+                    return Err(9);
+                }
+                p.last = record.last;
+            }
+            Line::Ask(_) => unreachable!("questions are judged"),
+        }
+        Ok(())
+    }
+
+    fn judge(&self, q: &Question) -> Answer {
+        let covered = |kind: u8, number: u32, code: u32| {
+            self.periods.iter().any(|p| {
+                p.csd == q.csd
+                    && p.kind == kind
+                    && p.number == number
+                    && u32::from(p.code) == code
+                    && p.first <= q.day
+                    && q.day <= p.last
+            })
+        };
+        let mut decided = [Deciding::default(); 3];
+        for t in &self.types {
+            if t.csd != q.csd || t.object != q.object || q.day < t.first || t.last < q.day {
+                continue;
+            }
+            let mut sequence = 0;
+            let mut exempt = false;
+            for r in &self.rules {
+                if r.csd != q.csd || r.number != t.number || r.object != t.object || q.day < r.first || r.last < q.day {
+                    continue;
+                }
+                let key = RuleKey { number: r.number, object: r.object, sequence: r.sequence };
+                if !self.rows_of(q.csd, key).any(|row| matches(&row.values, q, covered)) {
+                    continue;
+                }
+                if r.sign == NEGATIVE {
+                    exempt = true;
+                    break;
+                }
+                if sequence == 0 || r.sequence < sequence {
+                    sequence = r.sequence;
+                }
+            }
+            let d = &mut decided[t.processing as usize - 1];
+            if !exempt && sequence != 0 && (d.number == 0 || t.number < d.number) {
+                *d = Deciding { number: t.number, sequence };
+            }
+        }
+        verdict(decided)
+    }
+}
+
+impl Book for Flat {
+    fn answer(&mut self, bytes: &[u8]) -> Answer {
+        if !self.sound() {
+            return Answer::Refused(1);
+        }
+        match read(bytes) {
+            Err(n) => Answer::Refused(n),
+            Ok(Line::Ask(q)) => self.judge(&q),
+            Ok(line) => match self.apply(line) {
+                Ok(()) => Answer::Kept,
+                Err(n) => Answer::Refused(n),
+            },
+        }
+    }
+}
+
+// ---------------------------------------------------------------- maps
+
+struct MapRule {
+    sign: u8,
+    criteria: u16,
+    first: u32,
+    last: u32,
+    rows: HashSet<Values>,
+}
+
+struct MapType {
+    processing: u8,
+    first: u32,
+    last: u32,
+    rules: BTreeMap<u8, MapRule>, // by sequence
+}
+
+#[derive(Default)]
+struct Depository {
+    types: HashMap<(u8, u8), MapType>, // by object and type
+    // By kind, number and attribute; each list is short.
+    periods: HashMap<(u8, u32, u16), Vec<Period>>,
+    rules_held: usize,
+    rows_held: usize,
+    periods_held: usize,
+}
+
+impl Depository {
+    fn apply(&mut self, line: Line) -> Result<(), u8> {
+        match line {
+            Line::AddType { day, record } => {
+                if record.first <= day {
+                    return Err(6);
+                }
+                let key = (record.object, record.number);
+                if self.types.contains_key(&key) {
+                    return Err(8);
+                }
+                if self.types.len() >= TYPE_QUOTA {
+                    return Err(10);
+                }
+                let Type { processing, first, last, .. } = record;
+                self.types.insert(key, MapType { processing, first, last, rules: BTreeMap::new() });
+            }
+            Line::EndType { day, number, object, last, .. } => {
+                if last < day {
+                    return Err(6);
+                }
+                let t = self.types.get_mut(&(object, number)).ok_or(7)?;
+                if last < t.first || last > t.last {
+                    return Err(9);
+                }
+                t.last = last;
+            }
+            Line::AddRule { day, record } => {
+                if record.first <= day {
+                    return Err(6);
+                }
+                let t = self.types.get_mut(&(record.object, record.number)).ok_or(7)?;
+                if t.rules.contains_key(&record.sequence) {
+                    return Err(8);
+                }
+                if self.rules_held >= RULE_QUOTA {
+                    return Err(10);
+                }
+                let Rule { sign, criteria, first, last, .. } = record;
+                t.rules.insert(record.sequence, MapRule { sign, criteria, first, last, rows: HashSet::new() });
+                self.rules_held += 1;
+            }
+            Line::Reorder { rule, to, .. } => {
+                let t = self.types.get_mut(&(rule.object, rule.number)).ok_or(7)?;
+                if !t.rules.contains_key(&rule.sequence) {
+                    return Err(7);
+                }
+                if t.rules.contains_key(&to) {
+                    return Err(8);
+                }
+                let moved = t.rules.remove(&rule.sequence).expect("found above");
+                t.rules.insert(to, moved);
+            }
+            Line::DeleteRule { rule, .. } => {
+                let t = self.types.get_mut(&(rule.object, rule.number)).ok_or(7)?;
+                if !t.rules.get(&rule.sequence).ok_or(7)?.rows.is_empty() {
+                    return Err(9);
+                }
+                t.rules.remove(&rule.sequence);
+                self.rules_held -= 1;
+            }
+            Line::AddRow { record } => {
+                let rule = self.rule(&record).ok_or(7)?;
+                if rule.rows.contains(&record.values) {
+                    return Err(8);
+                }
+                if filled(&record.values) != rule.criteria {
+                    return Err(9);
+                }
+                if self.rows_held >= ROW_QUOTA {
+                    return Err(10);
+                }
+                self.rule(&record).ok_or(7)?.rows.insert(record.values);
+                self.rows_held += 1;
+            }
+            Line::DeleteRow { record } => {
+                if !self.rule(&record).ok_or(7)?.rows.remove(&record.values) {
+                    return Err(7);
+                }
+                self.rows_held -= 1;
+            }
+            Line::AddPeriod { day, record } => {
+                if record.first <= day {
+                    return Err(6);
+                }
+                let key = (record.kind, record.number, record.code / 100);
+                let list = self.periods.get(&key).map_or(&[][..], |list| list);
+                if list.iter().any(|p| p.first <= record.last && record.first <= p.last) {
+                    return Err(8);
+                }
+                if self.periods_held >= PERIOD_QUOTA {
+                    return Err(10);
+                }
+                self.periods.entry(key).or_default().push(record);
+                self.periods_held += 1;
+            }
+            Line::EndPeriod { day, record } => {
+                if record.last < day {
+                    return Err(6);
+                }
+                let key = (record.kind, record.number, record.code / 100);
+                let list = self.periods.get_mut(&key).ok_or(7)?;
+                let p = list.iter_mut().find(|p| p.code == record.code && p.first == record.first).ok_or(7)?;
+                if record.last < p.first || record.last > p.last {
+                    return Err(9);
+                }
+                p.last = record.last;
+            }
+            Line::Ask(_) => unreachable!("questions are judged"),
+        }
+        Ok(())
+    }
+
+    fn rule(&mut self, row: &Row) -> Option<&mut MapRule> {
+        self.types.get_mut(&(row.object, row.number))?.rules.get_mut(&row.sequence)
+    }
+
+    fn judge(&self, q: &Question) -> Answer {
+        let covered = |kind: u8, number: u32, code: u32| {
+            self.periods.get(&(kind, number, (code / 100) as u16)).is_some_and(|list| {
+                list.iter().any(|p| u32::from(p.code) == code && p.first <= q.day && q.day <= p.last)
+            })
+        };
+        let mut decided = [Deciding::default(); 3];
+        for (&(object, number), t) in &self.types {
+            if object != q.object || q.day < t.first || t.last < q.day {
+                continue;
+            }
+            let hit = |r: &MapRule| {
+                r.first <= q.day && q.day <= r.last && r.rows.iter().any(|values| matches(values, q, covered))
+            };
+            if t.rules.values().any(|r| r.sign == NEGATIVE && hit(r)) {
+                continue;
+            }
+            // The map is sorted by sequence.
+            if let Some((&sequence, _)) = t.rules.iter().find(|(_, r)| r.sign == POSITIVE && hit(r)) {
+                let d = &mut decided[t.processing as usize - 1];
+                if d.number == 0 || number < d.number {
+                    *d = Deciding { number, sequence };
+                }
+            }
+        }
+        verdict(decided)
+    }
+}
+
+#[derive(Default)]
+struct Maps {
+    depositories: [Depository; CSDS],
+}
+
+fn csd_of(line: &Line) -> u8 {
+    match line {
+        Line::AddType { record, .. } => record.csd,
+        Line::AddRule { record, .. } => record.csd,
+        Line::AddRow { record } | Line::DeleteRow { record } => record.csd,
+        Line::AddPeriod { record, .. } | Line::EndPeriod { record, .. } => record.csd,
+        Line::EndType { csd, .. } | Line::Reorder { csd, .. } | Line::DeleteRule { csd, .. } => *csd,
+        Line::Ask(q) => q.csd,
+    }
+}
+
+impl Book for Maps {
+    fn answer(&mut self, bytes: &[u8]) -> Answer {
+        let line = match read(bytes) {
+            Err(n) => return Answer::Refused(n),
+            Ok(line) => line,
+        };
+        let depository = &mut self.depositories[csd_of(&line) as usize - 1];
+        match line {
+            Line::Ask(q) => depository.judge(&q),
+            line => match depository.apply(line) {
+                Ok(()) => Answer::Kept,
+                Err(n) => Answer::Refused(n),
+            },
+        }
+    }
+}
+
+// ---------------------------------------------------------------- the program
+
+fn print(out: &mut impl Write, answer: &Answer) -> io::Result<()> {
+    match answer {
+        Answer::Kept => writeln!(out, "K"),
+        Answer::Refused(n) => writeln!(out, "F,{n}"),
+        Answer::Verdict([r, v, p]) => writeln!(
+            out,
+            "V,{},{},{},{},{},{},{}",
+            if r.number != 0 { 'R' } else { 'A' },
+            r.number,
+            r.sequence,
+            v.number,
+            v.sequence,
+            p.number,
+            p.sequence
+        ),
+    }
+}
+
+fn run(book: &mut dyn Book) -> io::Result<()> {
+    let mut input = BufReader::with_capacity(1 << 16, io::stdin().lock());
+    let mut output = BufWriter::with_capacity(1 << 16, io::stdout().lock());
+    let mut line = Vec::new();
+    loop {
+        // Answers go out before the program may have to wait for more input.
+        if !input.buffer().contains(&b'\n') {
+            output.flush()?;
+        }
+        line.clear();
+        if input.read_until(b'\n', &mut line)? == 0 {
+            return output.flush();
+        }
+        if line.last() == Some(&b'\n') {
+            line.pop();
+        }
+        print(&mut output, &book.answer(&line))?;
+    }
+}
+
+fn main() -> io::Result<()> {
+    match std::env::args().nth(1).as_deref() {
+        Some("flat") => run(&mut Flat::new()),
+        Some("maps") => run(&mut Maps::default()),
+        _ => {
+            eprintln!("usage: conventional flat|maps < LINES");
+            std::process::exit(2);
+        }
+    }
+}
+
+// ---------------------------------------------------------------- does the soundness check see damage?
+// rustc --test --edition 2021 main.rs, then run what it makes.
+
+#[cfg(test)]
+mod tests {
+    use super::*;
+
+    fn book() -> Flat {
+        let mut book = Flat::new();
+        for line in [
+            "T,2,20170206,9,1,3,20170207,20991231",
+            "T,2,20170206,4,2,2,20170207,20991231",
+            "R,2,20170206,9,1,5,P,4,20170207,20991231",
+            "R,2,20170206,9,1,6,N,8,20170207,20991231",
+            "M,2,20170206,9,1,5,,,FREE,,,,,,,",
+            "M,2,20170206,9,1,5,,,APMT,,,,,,,",
+            "A,2,20170206,P,7,101,20170301,20170331",
+            "A,2,20170206,P,7,102,20170401,20170430",
+        ] {
+            assert!(matches!(book.answer(line.as_bytes()), Answer::Kept), "{line}");
+        }
+        book
+    }
+
+    fn damaged(name: &str, damage: impl Fn(&mut Flat)) {
+        let mut book = book();
+        assert!(book.sound());
+        damage(&mut book);
+        assert!(!book.sound(), "{name}");
+        assert!(matches!(book.answer(b"noise"), Answer::Refused(1)), "{name}");
+    }
+
+    #[test]
+    fn damage_is_seen() {
+        damaged("size", |b| b.rows.push(Row::default()));
+        damaged("csd", |b| b.types[1].csd = 9);
+        damaged("type number", |b| b.types[1].number = 100);
+        damaged("party hold of object 2", |b| b.types[1].processing = 3);
+        damaged("no such day", |b| b.types[1].first = 20170229);
+        damaged("first after last", |b| b.types[1].last = 20170206);
+        damaged("free place not zero", |b| b.types[77].last = 1);
+        damaged("free row not zero", |b| b.rows[1023].values[9] = 1);
+        damaged("type twice", |b| b.types[5] = b.types[0]);
+        damaged("rule twice", |b| b.rules[511] = Rule { sign: NEGATIVE, ..b.rules[0] });
+        damaged("row twice", |b| b.rows[9] = b.rows[0]);
+        damaged("rule without its type", |b| b.types[0] = Type::default());
+        damaged("rule of another depository's type", |b| b.rules[1].csd = 3);
+        damaged("row without its rule", |b| b.rules[0] = Rule::default());
+        damaged("row with other criteria", |b| b.rules[0].criteria = 2);
+        damaged("row with more criteria", |b| b.rows[0].values[0] = 1);
+        damaged("no criteria", |b| b.rules[1].criteria = 0);
+        damaged("sign", |b| b.rules[1].sign = 3);
+        damaged("value", |b| b.rows[0].values[2] = 3);
+        damaged("code of value 0", |b| b.periods[0].code = 200);
+        damaged("kind", |b| b.periods[0].kind = 4);
+        damaged("number", |b| b.periods[0].number = 1_000_000);
+        damaged("periods share a day", |b| b.periods[0].last = 20170401);
+        damaged("type quota", |b| {
+            for n in 0..17 {
+                b.types[20 + n as usize] = Type { csd: 5, number: 10 + n, ..b.types[0] };
+            }
+        });
+        damaged("period quota", |b| {
+            for n in 0..129 {
+                b.periods[100 + n as usize] = Period { csd: 5, number: 10 + n, ..b.periods[0] };
+            }
+        });
+    }
+}

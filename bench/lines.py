@@ -1,0 +1,275 @@
+#!/usr/bin/env python3
+"""lines.py SEED COUNT: COUNT lines drawn from SEED, to compare two pre-checks.
+
+Kinds of lines and their share:
+    82 %  a well-formed line (letters: see PROFILES). Keys, days and codes come from short lists, so that records
+          meet, refusals 6 to 9 occur and questions match.
+     6 %  a well-formed line with one field changed to a wrong or unexpected one, emptied or filled (mostly refusal 5)
+     2 %  a well-formed line with a depository of 0, 9, 01, 10 or none (refusal 5)
+     2 %  a well-formed line with a field more or less (refusal 4)
+     1 %  a first field that is no letter of the table (refusal 3)
+     3 %  noise: one to three bytes of a well-formed line replaced, put in or taken out, any byte but 10
+     1 %  noise: 1 to 100 bytes of any value but 10
+     2 %  allowed bytes only, stretched to 79, 80, 81 or 82 bytes, or now and then to as many as 5,000
+     1 %  an empty line
+One file in three lacks the final byte 10. Each stretch of 400 lines has a profile. Half of the stretches are mixed: two of
+the eight depositories get three quarters of the lines, all eight share the rest. The other half fill one of the four
+quotas of a single depository, which gets 95 % of the lines, so that refusal 10 occurs.
+"""
+import random
+import sys
+
+# Share of each letter, in hundredths. A filling profile draws its keys from all numbers.
+PROFILES = {
+    "mixed":   {"T": 7, "E": 2, "R": 10, "O": 5, "D": 3, "M": 17, "N": 4, "A": 10, "Z": 4, "Q": 38},
+    "types":   {"T": 50, "E": 7, "R": 8, "O": 2, "D": 2, "M": 8, "N": 1, "A": 6, "Z": 1, "Q": 15},
+    "rules":   {"T": 3, "E": 1, "R": 66, "O": 3, "D": 3, "M": 6, "N": 1, "A": 4, "Z": 1, "Q": 12},
+    "rows":    {"T": 2, "E": 1, "R": 4, "O": 2, "D": 1, "M": 75, "N": 2, "A": 4, "Z": 1, "Q": 8},
+    "periods": {"T": 2, "E": 1, "R": 3, "O": 1, "D": 1, "M": 6, "N": 1, "A": 74, "Z": 3, "Q": 8},
+}
+STRETCH = 400
+
+EARLY = ["20200101", "20200226", "20200227", "20200228"]
+FIRSTS = ["20200228", "20200229", "20200229", "20200229", "20200301", "20200301", "20200302", "20200315", "20210228"]
+LASTS = ["20200229", "20200301", "20200315", "20200331", "20210228", "20210301", "20240229", "20991231", "20991231", "20991231"]
+ASKED = ["20200228", "20200229", "20200301", "20200302", "20200315", "20200315", "20200316", "20200331", "20200401", "20210228", "20210301"]
+ODD_DAYS = ["20000101", "20000229", "20960229", "20991230", "20991231", "20161231", "20201231", "20210101"]
+BAD_DAYS = ["20170229", "20210229", "20200230", "20200431", "20201301", "20200001", "20200100", "19991231", "21000101",
+            "2020031", "202003011", "2020030A", "00000000", "20200332", "99999999", "21000229"]
+
+MOVEMENTS, PAYMENTS = ["DELI", "RECE"], ["APMT", "FREE"]
+TRANSACTIONS, CURRENCIES = ["CORP", "TRAD"], ["EUR", "HUF"]
+PARTIES, ACCOUNTS, SECURITIES = [10, 11, 999999], [20, 21, 1], [30, 31, 7]
+NUMBERS = {"P": PARTIES, "A": ACCOUNTS, "S": SECURITIES}
+CODES = {"P": [101, 102, 111], "A": [201, 202, 9999], "S": [301, 302, 310]}
+CRITERIA = [64, 64, 128, 128, 256, 1, 2, 4, 6, 8, 8, 16, 32, 512, 3, 5, 40, 72, 130, 136, 448, 1023]
+WRONG = ["", "0", "1", "2", "3", "4", "8", "9", "00", "01", "05", "99", "100", "101", "199", "200", "300", "1000", "1023", "1024", "9900",
+         "9999", "10000", "10001", "999999", "1000000", "0999999", "18446744073709551617", "4294967297", "P", "N", "A", "S", "X", "PP",
+         "DELI", "RECE", "APMT", "FREE", "CORP", "CORPS", "COR", "COR1", "EUR", "EU", "EURO", "E1R", "20200301"]
+
+
+class Lines:
+    def __init__(self, seed):
+        self.r = random.Random(seed)
+        # What the generator believes the book holds; it is only a guide, and need not be right.
+        self.types, self.rules, self.rows, self.periods = {}, {}, {}, {}
+        self.turn()
+
+    def turn(self):
+        """A new stretch."""
+        r = self.r
+        self.profile = r.choice(["mixed"] * 4 + ["types", "rules", "rows", "periods"])
+        self.wide = self.profile != "mixed"
+        self.main = [r.randint(1, 8)] if self.wide else r.sample(range(1, 9), 2)
+        shares = PROFILES[self.profile]
+        self.letters, self.shares = list(shares), list(shares.values())
+
+    def chance(self, percent):
+        return self.r.random() * 100 < percent
+
+    def day(self, usual):
+        return self.r.choice(ODD_DAYS) if self.chance(3) else self.r.choice(usual)
+
+    def span(self, long=0):
+        if self.chance(long):
+            return "20200229", "20991231"
+        first, last = self.day(FIRSTS), self.day(LASTS)
+        return (last, first) if first > last and self.chance(90) else (first, last)
+
+    def number(self, usual, wide):
+        return self.r.randint(1, 99) if self.wide and wide else self.r.choice(usual)
+
+    def known(self, held):
+        """Mostly a key the book may hold, else None."""
+        return self.r.choice(list(held)) if held and self.chance(88) else None
+
+    def type_key(self, wide=False):
+        return self.number([1, 2, 3, 99], wide), 1 if self.chance(70) else 2
+
+    def rule_key(self, types):
+        kind = self.known(types) or self.type_key()
+        return kind + (self.number([1, 2, 3, 99], self.profile == "rules"),)
+
+    def row_values(self, criteria):
+        r, far = self.r, self.profile == "rows"
+        every = [
+            r.randint(1, 3), r.choice(MOVEMENTS), r.choice(PAYMENTS), r.choice(TRANSACTIONS),
+            r.randint(1, 999999) if far else r.choice(SECURITIES), r.randint(1, 999999) if far else r.choice(ACCOUNTS),
+            *(100 * r.randint(1, 99) + r.randint(1, 99) if far else r.choice(CODES[k]) for k in "PAS"), r.choice(CURRENCIES),
+        ]
+        if far:
+            every[3] = "".join(r.choices("ABCDEFGHIJKLMNOPQRSTUVWXYZ", k=4))
+        return tuple(str(v) if criteria >> i & 1 else "" for i, v in enumerate(every))
+
+    def fields(self):
+        """The fields of a well-formed line, and what to note once the line is sent as it is."""
+        r = self.r
+        letter = r.choices(self.letters, self.shares)[0]
+        csd = r.choice(self.main) if self.chance(95 if self.wide else 75) else r.randint(1, 8)
+        if letter == "Q" and not self.rows.get(csd) and self.chance(80):
+            csd = r.choice([c for c in self.rows if self.rows[c]] or [csd])
+        types, rules = self.types.setdefault(csd, {}), self.rules.setdefault(csd, {})
+        rows, periods = self.rows.setdefault(csd, {}), self.periods.setdefault(csd, {})
+        # A row needs a rule and a rule a type: mostly make what is missing first.
+        if letter in "MNOD" and not rules and self.chance(80):
+            letter = "R"
+        if letter in "RE" and not types and self.chance(80):
+            letter = "T"
+        day = self.day(EARLY)
+        note = lambda: None
+        if letter == "T":
+            key = self.type_key(self.profile == "types")
+            span = self.span(70)
+            processing = r.choice([1, 2, 3]) if key[1] == 1 or self.chance(2) else r.choice([1, 2])
+            rest = [*key, processing, *span]
+            if day < span[0] <= span[1]:
+                note = lambda: types.setdefault(key, True)
+        elif letter == "E":
+            day = self.day(FIRSTS)
+            rest = [*(self.known(types) or self.type_key()), self.day(LASTS)]
+        elif letter == "R":
+            key = self.rule_key(types)
+            span = self.span(60)
+            criteria = r.choice(CRITERIA) if self.chance(85) else r.randint(1, 1023)
+            if self.profile == "rows":
+                criteria |= 8
+            rest = [*key, "N" if self.chance(25) else "P", criteria, *span]
+            if day < span[0] <= span[1] and key[:2] in types:
+                note = lambda: rules.setdefault(key, criteria)
+        elif letter == "O":
+            key = self.known(rules) or self.rule_key(types)
+            new = key[:2] + (self.number([1, 2, 3, 4, 99], self.profile == "rules"),)
+            rest = [*key, new[2]]
+
+            def note():
+                if key in rules and new not in rules:
+                    rules[new] = rules.pop(key)
+                    for row in [row for row in rows if row[0] == key]:
+                        rows[new, row[1]] = rows.pop(row)
+        elif letter == "D":
+            key = self.known(rules) or self.rule_key(types)
+            rest = [*key]
+            if all(row[0] != key for row in rows):
+                note = lambda: rules.pop(key, None)
+        elif letter in "MN":
+            row = self.known(rows) if letter == "N" or self.chance(6) else None
+            if row is None:
+                key = self.known(rules) or self.rule_key(types)
+                criteria = rules.get(key) or r.choice(CRITERIA)
+                if self.chance(5):
+                    criteria = r.choice([0, criteria ^ 1 << r.randint(0, 9), r.randint(0, 1023)])
+                row = (key, self.row_values(criteria))
+                if letter == "M" and criteria == rules.get(key):
+                    note = lambda: rows.setdefault(row, True)
+            elif letter == "N":
+                note = lambda: rows.pop(row, None)
+            rest = [*row[0], *row[1]]
+        elif letter == "A":
+            period = self.known(periods) if self.chance(5) else None
+            if period is None:
+                kind = r.choice("PAS")
+                number = r.randint(1, 999999) if self.profile == "periods" else r.choice(NUMBERS[kind])
+                period = (kind, number, r.choice(CODES[kind]), *self.span(20))
+                if day < period[3] <= period[4]:
+                    note = lambda: periods.setdefault(period, True)
+            rest = [*period]
+        elif letter == "Z":
+            period = self.known(periods)
+            if period is None:
+                kind = r.choice("PAS")
+                period = (kind, r.choice(NUMBERS[kind]), r.choice(CODES[kind]), *self.span())
+            day = self.day(FIRSTS)
+            rest = [*period[:4], period[4] if self.chance(25) else self.day(LASTS)]
+        else:
+            rest = self.question(rows, periods)
+            day = self.day(ASKED)
+        return [letter, str(csd), day] + [str(f) for f in rest], note
+
+    def question(self, rows, periods):
+        r = self.r
+        kind = 1 if self.chance(70) else 2
+        asked = [str(r.randint(1, 3)), r.choice(MOVEMENTS), r.choice(PAYMENTS), r.choice(TRANSACTIONS + [""]),
+                 r.choice(SECURITIES), r.choice(ACCOUNTS), r.choice(PARTIES), None, None, r.choice(CURRENCIES + [""])]
+        if rows and self.chance(75):  # ask after a row that may be held
+            (_, kind, _), values = self.known(rows) or r.choice(list(rows))
+            for i in (0, 1, 2, 3, 4, 5, 9):
+                asked[i] = values[i] or asked[i]
+            for i, letter, place in ((6, "P", 6), (7, "A", 5), (8, "S", 4)):
+                with_code = [p[1] for p in periods if p[0] == letter and str(p[2]) == values[i]]
+                if with_code:
+                    asked[place] = r.choice(with_code)
+        if kind == 2:
+            asked[1] = asked[2] = ""
+        return [kind, *asked[:4], asked[9], asked[6], asked[5], asked[4]]
+
+    def byte(self):
+        """Any byte but 10; often one that is allowed or nearly so."""
+        if self.chance(50):
+            return self.r.choice(b"09AZ,/:@[ az-\r\0\x7f\xff")
+        b = self.r.randint(0, 255)
+        return 0 if b == 10 else b
+
+    def line(self):
+        r, kind = self.r, self.r.random() * 100
+        fields, note = self.fields()
+        text = ",".join(fields).encode()
+        if kind < 82:
+            note()
+            return text
+        if kind < 88:
+            i = r.randint(1, len(fields) - 1)
+            usual_day = len(fields[i]) == 8 and self.chance(80)
+            fields[i] = r.choice(BAD_DAYS) if usual_day or self.chance(5) else r.choice(WRONG)
+            return ",".join(fields).encode()
+        if kind < 90:
+            fields[1] = r.choice(["0", "9", "01", "10", "", "A"])
+            return ",".join(fields).encode()
+        if kind < 92:
+            i = r.randint(1, len(fields) - 1)
+            if self.chance(50):
+                del fields[i:i + r.randint(1, 3)]
+            else:
+                fields[i:i] = [r.choice(["", "1", fields[i]])] * r.randint(1, 3)
+            return ",".join(fields).encode()
+        if kind < 93:
+            fields[0] = r.choice(["", "B", "X", "K", "F", "V", "TT", "QT", "T1", "1", "0", "P", "S"])
+            return ",".join(fields).encode()
+        if kind < 96:
+            noisy = bytearray(text)
+            for _ in range(r.randint(1, 3)):
+                i, how = r.randrange(len(noisy)), r.randint(0, 2)
+                noisy[i:i + (how != 1)] = bytes([self.byte()] if how != 2 else [])
+                if not noisy:
+                    break
+            return bytes(noisy)
+        if kind < 97:
+            return bytes(self.byte() for _ in range(r.randint(1, 100)))
+        if kind < 99:
+            length = r.choice([79, 80, 81, 82]) if self.chance(85) else r.choice([83, 100, 127, 128, 255, 256, 300, 5000])
+            if self.chance(50):  # longer fields, the same number of them
+                i = r.randrange(len(fields))
+                fields[i] += r.choice("019AZ") * max(0, length - len(text))
+                return ",".join(fields).encode()
+            return text + bytes(r.choices(b"01289AFQTZ,,", k=max(0, length - len(text))))
+        return b""
+
+
+def main(words):
+    if len(words) != 2:
+        sys.exit(__doc__)
+    seed, count = int(words[0]), int(words[1])
+    made = Lines(seed)
+    out = []
+    for i in range(count):
+        if i and i % STRETCH == 0:
+            made.turn()
+        out.append(made.line())
+    text = b"\n".join(out)
+    # An empty last line without its byte 10 would be no line, so it always gets one.
+    if out and (seed % 3 or not out[-1]):
+        text += b"\n"
+    sys.stdout.buffer.write(text)
+
+
+if __name__ == "__main__":
+    main(sys.argv[1:])
