@@ -1,6 +1,6 @@
 // The places of the book: reading and storing of a record by value. Written by tools/places.py.
 ghost use mathlib.Core.Path.{_≡_};
-ghost use Prim.Native.Nat.{_+_, _%_};
+ghost use Prim.Native.Nat.{_+_, _%_, _*_};
 ghost use lib.ListN.{set, getD};
 ghost use mathlib.Core.List.{[], _∷_};
 ghost use Rattle.tables.specs.Bytes.{byteAt, one, two, three, four, number, digits, bytesOf, puts};
@@ -34,34 +34,65 @@ fn one_at(b: &[u8], at: u32, j: u16) -> u32
     wide(byte_at(b, at, j as u32))
 }
 
+fn two(x0: u8, x1: u8) -> u32
+    ensures { λ r. ⌜ r ≡ x0 + 256 * x1 ⌝ }
+{
+    wide(x0) + 256 * wide(x1)
+}
+
+fn three(x0: u8, x1: u8, x2: u8) -> u32
+    ensures { λ r. ⌜ r ≡ x0 + 256 * x1 + 65536 * x2 ⌝ }
+{
+    wide(x0) + 256 * wide(x1) + 65536 * wide(x2)
+}
+
+fn four(x0: u8, x1: u8, x2: u8, x3: u8) -> u32
+    ensures { λ r. ⌜ r ≡ x0 + 256 * x1 + 65536 * x2 + 16777216 * x3 ⌝ }
+{
+    wide(x0) + 256 * wide(x1) + 65536 * wide(x2) + 16777216 * wide(x3)
+}
+
+// Where all its bytes lie within the book, a number is read by one test; else byte by byte.
+
 fn two_at(b: &[u8], at: u32, j: u16) -> u32
     ensures { λ r. ⌜ r ≡ number two (now (b .entry)) at j ⌝ }
 {
+    let i = at as usize + j as usize;
+    if i + 1 < b.len() {
+        return two(b[i], b[i + 1]);
+    }
     let k = j as u32;
-    let x0 = wide(byte_at(b, at, k));
-    let x1 = wide(byte_at(b, at, k + 1));
-    x0 + 256 * x1
+    two(byte_at(b, at, k), byte_at(b, at, k + 1))
 }
 
 fn three_at(b: &[u8], at: u32, j: u16) -> u32
     ensures { λ r. ⌜ r ≡ number three (now (b .entry)) at j ⌝ }
 {
+    let i = at as usize + j as usize;
+    if i + 2 < b.len() {
+        return three(b[i], b[i + 1], b[i + 2]);
+    }
     let k = j as u32;
-    let x0 = wide(byte_at(b, at, k));
-    let x1 = wide(byte_at(b, at, k + 1));
-    let x2 = wide(byte_at(b, at, k + 2));
-    x0 + 256 * x1 + 65536 * x2
+    three(
+        byte_at(b, at, k),
+        byte_at(b, at, k + 1),
+        byte_at(b, at, k + 2),
+    )
 }
 
 fn four_at(b: &[u8], at: u32, j: u16) -> u32
     ensures { λ r. ⌜ r ≡ number four (now (b .entry)) at j ⌝ }
 {
+    let i = at as usize + j as usize;
+    if i + 3 < b.len() {
+        return four(b[i], b[i + 1], b[i + 2], b[i + 3]);
+    }
     let k = j as u32;
-    let x0 = wide(byte_at(b, at, k));
-    let x1 = wide(byte_at(b, at, k + 1));
-    let x2 = wide(byte_at(b, at, k + 2));
-    let x3 = wide(byte_at(b, at, k + 3));
-    x0 + 256 * x1 + 65536 * x2 + 16777216 * x3
+    let x0 = byte_at(b, at, k);
+    let x1 = byte_at(b, at, k + 1);
+    let x2 = byte_at(b, at, k + 2);
+    let x3 = byte_at(b, at, k + 3);
+    four(x0, x1, x2, x3)
 }
 
 // Writes a byte at an offset from a place, and nothing past the end.
