@@ -1,7 +1,5 @@
 pub mod Place
 pub mod Right
-pub mod Held
-pub mod Decided
 pub mod NoRecords
 pub mod Facts
 pub mod Found

@@ -1,10 +1,9 @@
--- What the functions find at a place: that it holds a record as asked, or none; that it is right, used or free. Written by tools/loops.py.
+-- What the functions find at a place: that it holds a record as asked, or none. Written by tools/loops.py.
 use Prim.Native.Nat.{ℕ}
 use mathlib.Core.Path.{_≡_}
-use mathlib.Core.Bool.{Bool, true, false}
+use mathlib.Core.Bool.{Bool, false}
 use mathlib.Core.List.{List}
 use Rattle.meaning.specs.Records as M
-use Rattle.meaning.specs.Fields.{within}
 use Rattle.places.specs.Layout.{typeAt, ruleAt, rowAt, periodAt}
 use Rattle.places.specs.declared.RestrictionType.{RestrictionType}
 use Rattle.records.specs.declared.TypeAsk.{TypeAsk}
@@ -15,11 +14,9 @@ use Rattle.records.specs.declared.RowAsk.{RowAsk}
 use Rattle.places.specs.declared.Period.{Period}
 use Rattle.records.specs.declared.PeriodAsk.{PeriodAsk}
 use Rattle.records.specs.Said.{typeOf, ruleOf, rowOf, periodOf}
-use Rattle.records.specs.Free.{typeZero, ruleZero, rowZero, periodZero}
 use Rattle.records.specs.Asks.{typeMeets, ruleMeets, rowMeets, periodMeets}
-use Rattle.records.proofs.Nobody.{type-nobody, rule-nobody, row-nobody, period-nobody}
-use Rattle.book.specs.Places.{heldType, typeOk, typeHit, heldRule, ruleOk, ruleHit, heldRow, rowOk, rowHit, heldPeriod, periodOk, periodHit}
-use Rattle.book.proofs.Place.{hit, miss, used, unused}
+use Rattle.book.specs.Places.{typeHit, ruleHit, rowHit, periodHit}
+use Rattle.book.proofs.Place.{hit, miss}
 
 -- ---- types
 
@@ -31,14 +28,6 @@ pub type-miss : (b : List ℕ) (a k : ℕ) (q : TypeAsk) (c : ℕ) → c ≡ typ
 unfolding typeHit
 type-miss b a k q c e f = miss (λ x. x .csd) (λ x. typeMeets q (typeOf x)) a (typeAt b k) c e f
 
-pub type-used : (b : List ℕ) (k : ℕ) (t : RestrictionType) (x r : Bool) → t ≡ typeAt b k → x ≡ within 1 8 (t .csd) → x ≡ true → r ≡ heldType b (t .csd) (typeOf t) → r ≡ typeOk b k
-unfolding typeOk
-type-used b k t x r e f g h = used (λ x. x .csd) typeZero type-nobody (λ x. heldType b (x .csd) (typeOf x)) t (typeAt b k) x r e f g h
-
-pub type-free : (b : List ℕ) (k : ℕ) (t : RestrictionType) (x r : Bool) → t ≡ typeAt b k → x ≡ within 1 8 (t .csd) → x ≡ false → r ≡ typeZero t → r ≡ typeOk b k
-unfolding typeOk
-type-free b k t x r e f g h = unused (λ x. x .csd) typeZero (λ x. heldType b (x .csd) (typeOf x)) t (typeAt b k) x r e f g h
-
 -- ---- rules
 
 pub rule-hit : (b : List ℕ) (a k : ℕ) (q : RuleAsk) (w : M.Row) (c : ℕ) (t : Rule) (r : Bool) → c ≡ ruleAt b k .csd → c ≡ a → t ≡ ruleAt b k → r ≡ ruleMeets q w (ruleOf t) → r ≡ ruleHit b a q w k
@@ -48,14 +37,6 @@ rule-hit b a k q w c t r e f g h = hit (λ x. x .csd) (λ x. ruleMeets q w (rule
 pub rule-miss : (b : List ℕ) (a k : ℕ) (q : RuleAsk) (w : M.Row) (c : ℕ) → c ≡ ruleAt b k .csd → (c ≡ a → ⊥) → false ≡ ruleHit b a q w k
 unfolding ruleHit
 rule-miss b a k q w c e f = miss (λ x. x .csd) (λ x. ruleMeets q w (ruleOf x)) a (ruleAt b k) c e f
-
-pub rule-used : (b : List ℕ) (k : ℕ) (t : Rule) (x r : Bool) → t ≡ ruleAt b k → x ≡ within 1 8 (t .csd) → x ≡ true → r ≡ heldRule b (t .csd) (ruleOf t) → r ≡ ruleOk b k
-unfolding ruleOk
-rule-used b k t x r e f g h = used (λ x. x .csd) ruleZero rule-nobody (λ x. heldRule b (x .csd) (ruleOf x)) t (ruleAt b k) x r e f g h
-
-pub rule-free : (b : List ℕ) (k : ℕ) (t : Rule) (x r : Bool) → t ≡ ruleAt b k → x ≡ within 1 8 (t .csd) → x ≡ false → r ≡ ruleZero t → r ≡ ruleOk b k
-unfolding ruleOk
-rule-free b k t x r e f g h = unused (λ x. x .csd) ruleZero (λ x. heldRule b (x .csd) (ruleOf x)) t (ruleAt b k) x r e f g h
 
 -- ---- rows
 
@@ -67,14 +48,6 @@ pub row-miss : (b : List ℕ) (a k : ℕ) (q : RowAsk) (w : M.Row) (c : ℕ) →
 unfolding rowHit
 row-miss b a k q w c e f = miss (λ x. x .csd) (λ x. rowMeets q w (rowOf x)) a (rowAt b k) c e f
 
-pub row-used : (b : List ℕ) (k : ℕ) (t : Row) (x r : Bool) → t ≡ rowAt b k → x ≡ within 1 8 (t .csd) → x ≡ true → r ≡ heldRow b (t .csd) (rowOf t) → r ≡ rowOk b k
-unfolding rowOk
-row-used b k t x r e f g h = used (λ x. x .csd) rowZero row-nobody (λ x. heldRow b (x .csd) (rowOf x)) t (rowAt b k) x r e f g h
-
-pub row-free : (b : List ℕ) (k : ℕ) (t : Row) (x r : Bool) → t ≡ rowAt b k → x ≡ within 1 8 (t .csd) → x ≡ false → r ≡ rowZero t → r ≡ rowOk b k
-unfolding rowOk
-row-free b k t x r e f g h = unused (λ x. x .csd) rowZero (λ x. heldRow b (x .csd) (rowOf x)) t (rowAt b k) x r e f g h
-
 -- ---- periods
 
 pub period-hit : (b : List ℕ) (a k : ℕ) (q : PeriodAsk) (c : ℕ) (t : Period) (r : Bool) → c ≡ periodAt b k .csd → c ≡ a → t ≡ periodAt b k → r ≡ periodMeets q (periodOf t) → r ≡ periodHit b a q k
@@ -84,11 +57,3 @@ period-hit b a k q c t r e f g h = hit (λ x. x .csd) (λ x. periodMeets q (peri
 pub period-miss : (b : List ℕ) (a k : ℕ) (q : PeriodAsk) (c : ℕ) → c ≡ periodAt b k .csd → (c ≡ a → ⊥) → false ≡ periodHit b a q k
 unfolding periodHit
 period-miss b a k q c e f = miss (λ x. x .csd) (λ x. periodMeets q (periodOf x)) a (periodAt b k) c e f
-
-pub period-used : (b : List ℕ) (k : ℕ) (t : Period) (x r : Bool) → t ≡ periodAt b k → x ≡ within 1 8 (t .csd) → x ≡ true → r ≡ heldPeriod b (t .csd) (periodOf t) → r ≡ periodOk b k
-unfolding periodOk
-period-used b k t x r e f g h = used (λ x. x .csd) periodZero period-nobody (λ x. heldPeriod b (x .csd) (periodOf x)) t (periodAt b k) x r e f g h
-
-pub period-free : (b : List ℕ) (k : ℕ) (t : Period) (x r : Bool) → t ≡ periodAt b k → x ≡ within 1 8 (t .csd) → x ≡ false → r ≡ periodZero t → r ≡ periodOk b k
-unfolding periodOk
-period-free b k t x r e f g h = unused (λ x. x .csd) periodZero (λ x. heldPeriod b (x .csd) (periodOf x)) t (periodAt b k) x r e f g h

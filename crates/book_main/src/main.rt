@@ -35,7 +35,7 @@ fn write(text: &[u8]) {
 }
 
 fn say(b: &[u8], what: &[u8]) {
-    if book::is_sound(b) {
+    if soundness::is_sound(b) {
         write(b"sound: ");
     } else {
         write(b"not sound: ");
@@ -284,7 +284,7 @@ fn free_places(b: &mut [u8]) {
 fn sound_with(b: &mut [u8], at: usize, v: u8) -> bool {
     let old = byte(b, at);
     set(b, at, v);
-    let sound = book::is_sound(b);
+    let sound = soundness::is_sound(b);
     set(b, at, old);
     sound
 }

@@ -5,9 +5,9 @@ ghost use lib.Dec.{leb};
 ghost use lib.ListN.{length};
 ghost use Rattle.lines.specs.Many.{laid, Put, Turn, Answered};
 ghost use Rattle.lines.specs.Keeping.{Keeps};
-use book::is_sound;
 use meaning::Answer;
 use precheck::answer;
+use soundness::is_sound;
 use text::next_line;
 use text::print;
 

@@ -5,7 +5,6 @@ ghost use Rattle.book.specs.Emptied.{Emptied};
 ghost use Rattle.book.specs.Sound.{sound};
 ghost use Rattle.precheck.specs.Promise.{Submitted};
 ghost use Rattle.precheck.specs.Taking.{questionFrom, Took, Answers};
-use book::is_sound;
 use edits::edit;
 use edits::refusal;
 use judge::Question;
@@ -13,6 +12,7 @@ use judge::judge;
 use line::Line;
 use line::read_line;
 use meaning::Answer;
+use soundness::is_sound;
 
 // Makes a book of no records from lent space of the exact size and answers 0; other sizes get 1 and stay untouched.
 pub fn empty(book: &mut [u8]) -> u8

@@ -1,0 +1,4 @@
+pub mod Chaining
+pub mod Earlier
+pub mod Passing
+pub mod Blocking

@@ -1,0 +1,11 @@
+-- `chains::no_rules` meets its contract. Assumes nothing.
+use Prim.Native.Nat.{ℕ}
+use lib.ListN.{getD-replicate, length-replicate}
+use Rattle.chains.proofs.no_rules.Statement.{statement}
+use Rattle.chains.proofs.no_rules.Tie as tie
+
+pub no-rules-spec : {M : Type 1} → statement M
+no-rules-spec =
+    tie.close
+    (tie.spec
+    (λ c. record { long = length-replicate {A = ℕ} 512 0; each = λ k l. getD-replicate {A = ℕ} 512 k 0 0 l }))

@@ -1,0 +1,35 @@
+-- `soundness::chain_has_type` meets its contract. Assumes nothing.
+use Prim.Native.Nat.{_-_}
+use native.Mathlib.Omega.{arith}
+use lib.ListN.{getD}
+use borrow.Author.Needs.{needs}
+use Rattle.book.specs.Places.{typeHit}
+use Rattle.chains.specs.Chains.{Walking}
+use Rattle.chains.proofs.Chaining.{walk-start, walk-end, walk-over, walk-found, walk-on}
+use Rattle.soundness.proofs.chain_has_type.Statement.{statement}
+use Rattle.soundness.proofs.chain_has_type.Tie as tie
+
+abbrev Inv-loop : tie.InvT-loop
+Inv-loop b head next k a q j₀ s₀ j s = Walking next (typeHit b a q) 128 (getD head k 0) s j
+
+abbrev μ-loop : tie.MeasureT-loop
+μ-loop b head next k a q j₀ s₀ j s = 128 - s
+
+pub chain-has-type-spec : {M : Type 1} → statement M
+chain-has-type-spec =
+    tie.close
+    (tie.spec
+    Inv-loop
+    μ-loop
+    (λ c κs. search needs)
+    (λ c. search walk-start)
+    (λ c. search walk-end)
+    (λ c. search needs)
+    (λ c κs. search needs)
+    (λ c. walk-found _ _ _ _ _ _ _ (c .before .before .before .before .loop .inv) (c .before .before .before .loop-test .taken) (c .before .type-is .ensures) (c .if2 .taken) (c .before .before .if1 .left))
+    (λ c. search needs)
+    (λ c κs. search needs)
+    (λ c. omega arith)
+    (λ c. omega arith)
+    (λ c. walk-on _ _ _ _ _ _ _ _ (c .follow .ensures) (c .before .before .before .before .before .loop .inv) (c .before .before .before .before .loop-test .taken) (c .before .before .type-is .ensures) (c .before .if2 .left) (c .before .before .before .if1 .left))
+    (λ c. search walk-over))
