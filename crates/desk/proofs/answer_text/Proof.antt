@@ -1,11 +1,11 @@
--- `desk::input::answer_text` meets its contract. The invariant: what was read lies within the text, and every lent space keeps its size. Assumes nothing.
+-- `desk::answer_text` meets its contract. The invariant: what was read lies within the text, and every lent space keeps its size. Assumes nothing.
 use Prim.Native.Nat.{_≤_, _-_}
 use mathlib.Core.Path.{_≡_}
 use lib.ListN.{length}
 use native.Mathlib.Omega.{arith}
 use borrow.Author.Needs.{needs}
-use Rattle.desk.proofs.input.answer_text.Statement.{statement}
-use Rattle.desk.proofs.input.answer_text.Tie as tie
+use Rattle.desk.proofs.answer_text.Statement.{statement}
+use Rattle.desk.proofs.answer_text.Tie as tie
 
 abbrev Inv-loop : tie.InvT-loop
 Inv-loop book₀ text₀ n out₀ at₀ book text out at = (at ≤ n) × (length book ≡ length book₀) × (length text ≡ length text₀) × (length out ≡ length out₀)

@@ -1,10 +1,10 @@
--- `desk::set::arguments` meets its contract. Assumes nothing.
+-- `desk::arguments` meets its contract. Assumes nothing.
 use mathlib.Core.Path.{sym}
 use native.Mathlib.Omega.{arith}
 use lib.Seq.{length-take-le}
 use borrow.Author.Needs.{needs}
-use Rattle.desk.proofs.set.arguments.Statement.{statement}
-use Rattle.desk.proofs.set.arguments.Tie as tie
+use Rattle.desk.proofs.arguments.Statement.{statement}
+use Rattle.desk.proofs.arguments.Tie as tie
 
 pub arguments-spec : {M : Type 1} → statement M
 arguments-spec =

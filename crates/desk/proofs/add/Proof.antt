@@ -1,10 +1,10 @@
--- `desk::set::add` meets its contract. Assumes nothing.
+-- `desk::add` meets its contract. Assumes nothing.
 use Prim.Native.Nat.{_≤_, _-_}
 use mathlib.Core.Path.{_≡_}
 use lib.ListN.{length}
 use borrow.Author.Needs.{needs}
-use Rattle.desk.proofs.set.add.Statement.{statement}
-use Rattle.desk.proofs.set.add.Tie as tie
+use Rattle.desk.proofs.add.Statement.{statement}
+use Rattle.desk.proofs.add.Tie as tie
 
 abbrev Inv-loop : tie.InvT-loop
 Inv-loop line₀ at bytes end₀ line end = (at ≤ end) × (end ≤ length line₀) × (length line ≡ length line₀)

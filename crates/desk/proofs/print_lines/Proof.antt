@@ -1,10 +1,10 @@
--- `desk::set::print_lines` ends. Assumes nothing.
+-- `desk::print_lines` ends. Assumes nothing.
 use Prim.Native.Nat.{_≤_, _-_}
 use mathlib.Core.Path.{_≡_}
 use lib.ListN.{length}
 use borrow.Author.Needs.{needs}
-use Rattle.desk.proofs.set.print_lines.Statement.{statement}
-use Rattle.desk.proofs.set.print_lines.Tie as tie
+use Rattle.desk.proofs.print_lines.Statement.{statement}
+use Rattle.desk.proofs.print_lines.Tie as tie
 
 abbrev Inv-loop : tie.InvT-loop
 Inv-loop v space₀ number₀ space number = (number ≤ 56) × (length space ≡ length space₀)

@@ -1,11 +1,11 @@
--- `desk::input::answer_all` meets its contract. The invariant: at most 81 bytes are held, and every lent space keeps its size. Assumes nothing.
+-- `desk::answer_all` meets its contract. The invariant: at most 81 bytes are held, and every lent space keeps its size. Assumes nothing.
 use Prim.Native.Nat.{_≤_}
 use mathlib.Core.Path.{_≡_}
 use lib.ListN.{length}
 use native.Mathlib.Omega.{arith}
 use borrow.Author.Needs.{needs}
-use Rattle.desk.proofs.input.answer_all.Statement.{statement}
-use Rattle.desk.proofs.input.answer_all.Tie as tie
+use Rattle.desk.proofs.answer_all.Statement.{statement}
+use Rattle.desk.proofs.answer_all.Tie as tie
 
 abbrev Inv-loop : tie.InvT-loop
 Inv-loop fd book₀ text₀ out₀ held₀ turns₀ book text out held turns =

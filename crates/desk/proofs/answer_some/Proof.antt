@@ -1,8 +1,8 @@
--- `desk::input::answer_some` meets its contract. Assumes nothing.
+-- `desk::answer_some` meets its contract. Assumes nothing.
 use Rattle.lines.proofs.Callers.{counted}
 use borrow.Author.Needs.{needs}
-use Rattle.desk.proofs.input.answer_some.Statement.{statement}
-use Rattle.desk.proofs.input.answer_some.Tie as tie
+use Rattle.desk.proofs.answer_some.Statement.{statement}
+use Rattle.desk.proofs.answer_some.Tie as tie
 
 pub answer-some-spec : {M : Type 1} → statement M
 answer-some-spec =

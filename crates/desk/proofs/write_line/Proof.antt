@@ -1,10 +1,10 @@
--- `desk::set::write_line` meets its contract. Assumes nothing.
+-- `desk::write_line` meets its contract. Assumes nothing.
 use mathlib.Core.Path.{sym}
 use native.Mathlib.Omega.{arith}
 use lib.Seq.{length-take-le}
 use borrow.Author.Needs.{needs}
-use Rattle.desk.proofs.set.write_line.Statement.{statement}
-use Rattle.desk.proofs.set.write_line.Tie as tie
+use Rattle.desk.proofs.write_line.Statement.{statement}
+use Rattle.desk.proofs.write_line.Tie as tie
 
 pub write-line-spec : {M : Type 1} → statement M
 write-line-spec =
