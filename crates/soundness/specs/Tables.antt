@@ -21,7 +21,7 @@ use Rattle.records.specs.declared.PeriodAsk.the-variants as Periods
 use Rattle.book.specs.Places.{typeHit, ruleHit, rowHit, periodHit}
 use Rattle.chains.specs.Chains.{chainHas, right, Chained}
 
--- ---- buckets: 64, 128, 256 and 256 of each depository
+-- ---- buckets: 64, 128, 256 and 256 of each depository. 251 is prime, so that round numbers do not share buckets
 
 abbrev pub typeBucket : ℕ → ℕ → ℕ → ℕ
 typeBucket csd number object = csd * 64 + (number + object * 32) % 64
@@ -36,10 +36,10 @@ valuesMixed v =
 
 unfoldable pub rowBucket : Row → ℕ
 unfolding valuesMixed
-rowBucket t = t .csd * 256 + (t .number * 29 + t .object * 64 + t .sequence + valuesMixed (t .values)) % 256
+rowBucket t = t .csd * 256 + (t .number * 29 + t .object * 64 + t .sequence + valuesMixed (t .values)) % 251
 
 abbrev pub periodBucket : Period → ℕ
-periodBucket t = t .csd * 256 + (t .number + t .kind * 85 + t .code / 100 * 37) % 256
+periodBucket t = t .csd * 256 + (t .number + t .kind * 85 + t .code / 100 * 37) % 251
 
 -- ---- what the chains of a table have: a record of that key, the row's rule, the same row, a period that clashes
 

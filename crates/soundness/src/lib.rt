@@ -1,8 +1,8 @@
 // Whether a lent book is sound, in a time that grows with the places used. A place is compared only with those before it in its chain
-// (specs/Chains.antt): the first place that is not right ends the test, so no chain is longer than a quota.
+// (crates/chains/specs/Chains.antt): the first place that is not right ends the test, so no chain is longer than a quota.
 ghost use mathlib.Core.Path.{_≡_};
 ghost use mathlib.Core.Bool.{_&&_};
-ghost use Prim.Native.Nat.{_+_, _*_, _<_, _≤_};
+ghost use Prim.Native.Nat.{_+_, _*_, _≤_};
 ghost use lib.ListN.{getD};
 ghost use Rattle.tables.specs.Count.{allBelow};
 ghost use Rattle.meaning.specs.Sound.{typeFits, ruleFits, rowFits, periodFits};
@@ -47,7 +47,6 @@ use records::row_fits;
 use records::row_zero;
 use records::rule_fits;
 use records::rule_zero;
-use records::small;
 use records::type_fits;
 use records::type_zero;
 
@@ -302,7 +301,7 @@ fn row_bucket(t: Row) -> usize
 {
     let v = t.values;
     let key = t.number as usize * 29 + t.object as usize * 64 + t.sequence as usize;
-    t.csd as usize * 256 + (key + values_mixed(v)) % 256
+    t.csd as usize * 256 + (key + values_mixed(v)) % 251
 }
 
 // Whether the chain of the bucket k has a row of depository a that is as asked.
@@ -419,7 +418,7 @@ fn period_bucket(t: Period) -> usize
 {
     let attribute = (t.code / 100) as usize;
     let of = t.number as usize + t.kind as usize * 85 + attribute * 37;
-    t.csd as usize * 256 + of % 256
+    t.csd as usize * 256 + of % 251
 }
 
 // Whether the chain of the bucket k has a period of depository a that is as asked.
