@@ -1,3 +1,4 @@
+pub mod Looking
 pub mod Place
 pub mod Right
 pub mod NoRecords

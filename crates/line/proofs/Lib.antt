@@ -1,3 +1,4 @@
+pub mod Returns
 pub mod Loops
 pub mod Capped
 pub mod Padding

@@ -1,3 +1,4 @@
+pub mod Returns
 pub mod Ten
 pub mod Filled
 pub mod Meets

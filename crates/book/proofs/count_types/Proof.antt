@@ -1,7 +1,8 @@
 -- `book::count_types` meets its contract. Assumes nothing.
 use Rattle.tables.specs.Count.{countBelow}
-use Rattle.tables.proofs.Counts.{count-none, count-more}
+use Rattle.tables.proofs.Counts.{count-none}
 use Rattle.tables.proofs.Lone.{count-lone}
+use Rattle.book.proofs.Looking.{counted-more}
 use Rattle.book.specs.Lone.{typesOf}
 use Rattle.book.specs.Places.{typeHit}
 use Prim.Native.Nat.{_≤_, _-_}
@@ -30,5 +31,5 @@ count-types-spec =
     (λ c. omega arith)
     (λ c. omega arith)
     (λ c. omega arith)
-    (λ c. (omega arith, omega arith, rw count-more cc))
+    (λ c. (omega arith, omega arith, search counted-more))
     (λ c. let e : c .before .loop .i ≡ 128 = omega arith in (rw count-lone (rw e at (c .before .loop .inv .2)), omega arith)))

@@ -1,6 +1,7 @@
 -- `book::find_period` meets its contract. Assumes nothing.
 use Rattle.tables.specs.Count.{findBelow}
-use Rattle.tables.proofs.Counts.{find-none, find-more}
+use Rattle.tables.proofs.Counts.{find-none}
+use Rattle.book.proofs.Looking.{found-more}
 use Rattle.book.specs.Places.{periodHit, periodPlace}
 use Prim.Native.Nat.{_≤_, _-_}
 use mathlib.Core.Path.{_≡_, sym}
@@ -27,5 +28,5 @@ find-period-spec =
     (λ c κs. search needs)
     (λ c. omega arith)
     (λ c. omega arith)
-    (λ c. (omega arith, rw find-more cc))
+    (λ c. (omega arith, search found-more))
     (λ c. let e : c .before .loop .i ≡ 1024 = omega arith in rw e at (c .before .loop .inv .1)))

@@ -1,6 +1,7 @@
 -- `book::find_rule` meets its contract. Assumes nothing.
 use Rattle.tables.specs.Count.{findBelow}
-use Rattle.tables.proofs.Counts.{find-none, find-more}
+use Rattle.tables.proofs.Counts.{find-none}
+use Rattle.book.proofs.Looking.{found-more}
 use Rattle.book.specs.Places.{ruleHit, rulePlace}
 use Rattle.records.specs.Said.{rowOf}
 use Prim.Native.Nat.{_≤_, _-_}
@@ -28,5 +29,5 @@ find-rule-spec =
     (λ c κs. search needs)
     (λ c. omega arith)
     (λ c. omega arith)
-    (λ c. (omega arith, rw find-more cc))
+    (λ c. (omega arith, search found-more))
     (λ c. let e : c .before .loop .i ≡ 512 = omega arith in rw e at (c .before .loop .inv .1)))

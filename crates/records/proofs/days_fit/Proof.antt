@@ -1,11 +1,10 @@
 -- `records::days_fit` meets its contract. Assumes nothing.
-use Rattle.meaning.specs.Sound.{daysFit}
+use Rattle.records.proofs.Returns.{days-said}
 use borrow.Author.Needs.{needs}
 use Rattle.records.proofs.days_fit.Statement.{statement}
 use Rattle.records.proofs.days_fit.Tie as tie
 
 pub days-fit-spec : {M : Type 1} → statement M
-unfolding daysFit
 days-fit-spec =
     tie.close
     (tie.spec
@@ -13,4 +12,4 @@ days-fit-spec =
     (λ c κs. search needs)
     (λ c κs. search needs)
     (λ c κs. search needs)
-    (λ c. cc))
+    (λ c. search days-said))

@@ -1,15 +1,12 @@
 -- `records::is_type` meets its contract. Assumes nothing.
-use Rattle.records.specs.Asks.{typeMeets}
-use Rattle.records.specs.Said.{typeOf}
-use Rattle.meaning.specs.Keys.{isType}
+use Rattle.records.proofs.Returns.{type-named}
 use borrow.Author.Needs.{needs}
 use Rattle.records.proofs.is_type.Statement.{statement}
 use Rattle.records.proofs.is_type.Tie as tie
 
 pub is-type-spec : {M : Type 1} → statement M
-unfolding typeMeets typeOf isType
 is-type-spec =
     tie.close
     (tie.spec
     (λ c κs. search needs)
-    (λ c. cc))
+    (λ c. search type-named))

@@ -1,12 +1,10 @@
 -- `records::period_zero` meets its contract. Assumes nothing.
-use Rattle.records.specs.Free.{periodZero, allZero}
-use Rattle.tables.specs.Count.{every}
+use Rattle.records.proofs.Returns.{period-free}
 use borrow.Author.Needs.{needs}
 use Rattle.records.proofs.period_zero.Statement.{statement}
 use Rattle.records.proofs.period_zero.Tie as tie
 
 pub period-zero-spec : {M : Type 1} → statement M
-unfolding periodZero allZero every
 period-zero-spec =
     tie.close
     (tie.spec
@@ -16,4 +14,4 @@ period-zero-spec =
     (λ c κs. search needs)
     (λ c κs. search needs)
     (λ c κs. search needs)
-    (λ c. cc))
+    (λ c. search period-free))

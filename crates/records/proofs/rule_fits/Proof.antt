@@ -1,13 +1,10 @@
 -- `records::rule_fits` meets its contract. Assumes nothing.
-use Rattle.meaning.specs.Sound.{ruleFits}
-use Rattle.records.specs.Said.{ruleOf}
-use Rattle.meaning.specs.Forms.{holds}
+use Rattle.records.proofs.Returns.{rule-said}
 use borrow.Author.Needs.{needs}
 use Rattle.records.proofs.rule_fits.Statement.{statement}
 use Rattle.records.proofs.rule_fits.Tie as tie
 
 pub rule-fits-spec : {M : Type 1} → statement M
-unfolding ruleFits ruleOf holds
 rule-fits-spec =
     tie.close
     (tie.spec
@@ -20,4 +17,4 @@ rule-fits-spec =
     (λ c κs. search needs)
     (λ c κs. search needs)
     (λ c κs. search needs)
-    (λ c. cc))
+    (λ c. search rule-said))
