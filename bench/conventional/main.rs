@@ -349,6 +349,15 @@ trait Book {
     fn answer(&mut self, bytes: &[u8]) -> Answer;
 }
 
+// E and Z: the new last day lies between the record's first day and its present last.
+fn end(first: u32, present: &mut u32, last: u32) -> Result<(), u8> {
+    if last < first || last > *present {
+        return Err(9);
+    }
+    *present = last;
+    Ok(())
+}
+
 fn filled(values: &Values) -> u16 {
     (0..10).fold(0, |set, i| set | u16::from(values[i] != 0) << i)
 }
@@ -601,10 +610,7 @@ impl Flat {
                 }
                 let place = self.find_type(csd, number, object).ok_or(7)?;
                 let t = &mut self.types[place];
-                if last < t.first || last > t.last {
-                    return Err(9);
-                }
-                t.last = last;
+                end(t.first, &mut t.last, last)?;
             }
             Line::AddRule { day, record } => {
                 if record.first <= day {
@@ -690,10 +696,7 @@ impl Flat {
                 }
                 let named = |p: &&mut Period| Period { last: record.last, ..**p } == record;
                 let p = self.periods.iter_mut().find(named).ok_or(7)?;
-                if record.last < p.first || record.last > p.last {
-                    return Err(9);
-                }
-                p.last = record.last;
+                end(p.first, &mut p.last, record.last)?;
             }
             Line::Ask(_) => unreachable!("questions are judged"),
         }
@@ -808,10 +811,7 @@ impl Depository {
                     return Err(6);
                 }
                 let t = self.types.get_mut(&(object, number)).ok_or(7)?;
-                if last < t.first || last > t.last {
-                    return Err(9);
-                }
-                t.last = last;
+                end(t.first, &mut t.last, last)?;
             }
             Line::AddRule { day, record } => {
                 if record.first <= day {
@@ -889,10 +889,7 @@ impl Depository {
                 let key = (record.kind, record.number, record.code / 100);
                 let list = self.periods.get_mut(&key).ok_or(7)?;
                 let p = list.iter_mut().find(|p| p.code == record.code && p.first == record.first).ok_or(7)?;
-                if record.last < p.first || record.last > p.last {
-                    return Err(9);
-                }
-                p.last = record.last;
+                end(p.first, &mut p.last, record.last)?;
             }
             Line::Ask(_) => unreachable!("questions are judged"),
         }
