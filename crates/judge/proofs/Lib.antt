@@ -4,3 +4,4 @@ pub mod Types
 pub mod Listing
 pub mod Ranged
 pub mod Right
+pub mod Passes

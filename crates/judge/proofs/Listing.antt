@@ -17,13 +17,13 @@ use Rattle.rules.specs.declared.First.the-variants.{At, Nothing}
 use Rattle.rules.proofs.Rising.{rising}
 use Rattle.judge.specs.Stages.{signKey, judgedRule, noneListed, Listed, firstRule}
 
-module _ (rules : ℕ → Bool) (type : ℕ) where
-  pub judged-by : (s sign kp kn : ℕ) (p n m : Bool) → m ≡ (p || n) → sign ≡ cond p positive negative → n ≡ rules kn → kn ≡ signKey type s negative → p ≡ rules kp → kp ≡ signKey type s positive → record { sequence = s; sign = sign; matches = m } ≡ judgedRule rules type s
+module _ (rules : ℕ → Bool) where
+  pub judged-by : (s sign kp kn : ℕ) (p n m : Bool) → m ≡ (p || n) → sign ≡ cond p positive negative → n ≡ rules kn → kn ≡ signKey s negative → p ≡ rules kp → kp ≡ signKey s positive → record { sequence = s; sign = sign; matches = m } ≡ judgedRule rules s
   judged-by s sign kp kn p n m em es en en′ ep ep′ = rw (em, es, en, en′, ep, ep′)
 
   -- ---- the list, one sequence after the other
 
-  pub listed-none : (t : List Judged) → t ≡ noneListed → Listed rules type 1 t
+  pub listed-none : (t : List Judged) → t ≡ noneListed → Listed rules 1 t
   unfolding noneListed
   listed-none t e = record {
     long = ap length e ∙ length-replicate 100 noRule;
@@ -31,7 +31,7 @@ module _ (rules : ℕ → Bool) (type : ℕ) where
     each = λ s o l. absurd (omega arith);
   }
 
-  pub listed-more : (t u : List Judged) (s : ℕ) (r : Judged) → u ≡ set t s r → r ≡ judgedRule rules type s → Listed rules type s t → 1 ≤ s → s < 100 → Listed rules type (s + 1) u
+  pub listed-more : (t u : List Judged) (s : ℕ) (r : Judged) → u ≡ set t s r → r ≡ judgedRule rules s → Listed rules s t → 1 ≤ s → s < 100 → Listed rules (s + 1) u
   listed-more t u s r eu er m o l = record {
     long = ap length eu ∙ length-set t s r ∙ m .long;
     none = ap (λ l. getD l 0 noRule) eu ∙ getD-set-other t s 0 r noRule (λ z. omega arith) ∙ m .none;
@@ -49,17 +49,17 @@ module _ (rules : ℕ → Bool) (type : ℕ) where
   may true b = refl
   may false b = refl
 
-  firsts : (t : List Judged) → Listed rules type 100 t → sequenceOf (firstPositive t) ≡ firstRule rules type
+  firsts : (t : List Judged) → Listed rules 100 t → sequenceOf (firstPositive t) ≡ firstRule rules
   unfolding firstRule
   firsts t m =
-      rising t (λ s. rules (signKey type s positive)) (ap mayDecide (m .none))
-      (λ s o l. ap mayDecide (m .each s o (omega (arith, m .long))) ∙ may (rules (signKey type s positive)) (rules (signKey type s negative)))
+      rising t (λ s. rules (signKey s positive)) (ap mayDecide (m .none))
+      (λ s o l. ap mayDecide (m .each s o (omega (arith, m .long))) ∙ may (rules (signKey s positive)) (rules (signKey s negative)))
       (λ s o l. ap (λ (r : Judged). r .sequence) (m .each s o (omega (arith, m .long))))
       (omega (arith, m .long))
-      ∙ ap (leastBelow (λ s. cond (rules (signKey type s positive)) s 0)) (m .long)
+      ∙ ap (leastBelow (λ s. cond (rules (signKey s positive)) s 0)) (m .long)
 
-  pub first-at : (t : List Judged) (f : First) (s : ℕ) → f ≡ At s → f ≡ firstPositive t → Listed rules type 100 t → s ≡ firstRule rules type
+  pub first-at : (t : List Judged) (f : First) (s : ℕ) → f ≡ At s → f ≡ firstPositive t → Listed rules 100 t → s ≡ firstRule rules
   first-at t f s e d m = ap sequenceOf (sym e ∙ d) ∙ firsts t m
 
-  pub first-nothing : (t : List Judged) (f : First) → f ≡ Nothing → f ≡ firstPositive t → Listed rules type 100 t → 0 ≡ firstRule rules type
+  pub first-nothing : (t : List Judged) (f : First) → f ≡ Nothing → f ≡ firstPositive t → Listed rules 100 t → 0 ≡ firstRule rules
   first-nothing t f e d m = ap sequenceOf (sym e ∙ d) ∙ firsts t m

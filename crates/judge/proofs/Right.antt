@@ -22,7 +22,7 @@ use Rattle.meaning.specs.Sound.{soundLone}
 use Rattle.places.specs.Layout.{typeAt, ruleAt, rowAt, periodAt}
 use Rattle.records.specs.Said.{typeOf, ruleOf, rowOf, periodOf}
 use Rattle.book.specs.Lone.{typesOf, rulesOf, rowsOf, periodsOf, loneBook}
-use Rattle.judge.specs.Stages.{asked, codeKey, ruleKey, signKey, typeKey, periodKey, rowKey, signedKey, typedKey, codeKeys, ruleKeys, signKeys, typeKeys, sought, borneBy, codesBorne, tests, rowMatches, rowsMatched, ruleMatches, rulesMatched, signsMatched, typeApplies, typesNamed, firstRule, decided, verdict, rulesOn, signsOn, judgedBy}
+use Rattle.judge.specs.Stages.{asked, codeKey, ruleKey, signKey, typeKey, periodKey, rowKey, signedKey, typedKey, codeKeys, ruleKeys, signKeys, typeKeys, sought, borneBy, codesBorne, tests, rowMatches, rowsMatched, ruleMatches, ruleOfType, rulesMatched, signsMatched, typeApplies, typesNamed, firstRule, decided, verdict, rulesOn, signsOn, judgedBy}
 use Rattle.judge.specs.declared.Question.{Question}
 use Rattle.judge.proofs.Ranged.{Ranged, ranged}
 use Rattle.judge.proofs.Rows.{row-met}
@@ -55,6 +55,10 @@ rule-order true d m m′ g s t h = rw (h refl) (order d m′ g s t)
     order false m false s false = refl
 rule-order false d m m′ g s true h = refl
 rule-order false d m m′ g s false h = refl
+
+of-type-order : (n m g s : Bool) → ((n && m) && (g && s)) ≡ (m && (g && (s && n)))
+of-type-order true m g s = rw (and-true s)
+of-type-order false m g s = rw (and-false s, and-false g, and-false m)
 
 type-order : (o d a n p : Bool) → (((o && d) && (a && n)) && p) ≡ (o && p && d && a && n)
 type-order true true a n true = and-true (a && n)
@@ -134,7 +138,7 @@ module _ (b : List ℕ) (q : Question) (r : Ranged (q .csd) b) where
       (λ e. rw e))
       ∙ sym (has-lone (λ w. w .csd) rowOf (q .csd) (rowAt b) _ 1024)
 
-  -- 3. A marked rule of a sign is one that speaks.
+  -- 3. A rule that matches is one that speaks for its type and sign.
   rules-of : ℕ → ℕ → ℕ → Bool
   rules-of t sign i = eqb (ruleAt b i .csd) (q .csd) && speaks lone (asked q) t sign (ruleOf (ruleAt b i))
 
@@ -150,26 +154,7 @@ module _ (b : List ℕ) (q : Question) (r : Ranged (q .csd) b) where
       ∙ ap (λ o. has (λ w. ofRule (ruleAt b i .number) o (ruleAt b i .sequence) w && meetsAll (meant.tests lone (asked q)) (w .values)) (lone .rows))
       (sym (eqb-true (ruleAt b i .object) (q .object) z)))
 
-  rules : (t x sign : ℕ) → x < 100 → sign < 3 → rulesOn b q (signKey t x sign) ≡ anyBelow (λ i. rules-of t sign i && eqb (ruleAt b i .sequence) x) 512
-  unfolding rulesMatched rules-of
-  rules t x sign low few =
-      keys-all signKeys (λ r. r .csd) (q .csd) (ruleAt b) signedKey (ruleMatches q (rowsMatched b q (codesBorne b q))) 512
-      (λ i l o e. let y = r .rules i l o in omega (arith, y .0, y .1, y .2)) (signKey t x sign)
-      ∙ any-same _ _ 512
-      (λ i l.
-      cases (eqb (ruleAt b i .csd) (q .csd))
-      (λ e.
-      let o = eqb-true (ruleAt b i .csd) (q .csd) e in
-      let y = r .rules i l o in
-      rw (
-        e,
-        parts-eq 3 (ruleKey (ruleAt b i .number) (ruleAt b i .sequence)) (ruleAt b i .sign) (ruleKey t x) sign (y .2) few,
-        parts-eq 100 (ruleAt b i .number) (ruleAt b i .sequence) t x (y .1) low,
-      )
-      (spoken t sign i (eqb (ruleAt b i .sequence) x) l o))
-      (λ e. rw e))
-
-  -- 4. A marked sign of a type is that of a rule that speaks.
+  -- A marked sign of a type is that of a rule that speaks.
   signs : (t sign : ℕ) → sign < 3 → signsOn b q (typeKey t sign) ≡ has (speaks lone (asked q) t sign) (lone .rules)
   unfolding lone signsMatched rulesOf
   signs t sign few =
@@ -185,7 +170,7 @@ module _ (b : List ℕ) (q : Question) (r : Ranged (q .csd) b) where
       (λ e. rw e))
       ∙ sym (has-lone (λ r. r .csd) ruleOf (q .csd) (ruleAt b) _ 512)
 
-  -- 5. The types.
+  -- 4. The types.
   applied : (processing i : ℕ) → (typeApplies q (signsOn b q) (typeAt b i) && eqb (typeAt b i .processing) processing) ≡ applies lone (asked q) processing (typeOf (typeAt b i))
   unfolding typeApplies applies typeOf
   applied processing i =
@@ -200,15 +185,31 @@ module _ (b : List ℕ) (q : Question) (r : Ranged (q .csd) b) where
       least-same _ _ 128 (λ i l. ap (λ z. cond (eqb (typeAt b i .csd) (q .csd) && z) (typeAt b i .number) 0) (applied processing i))
       ∙ sym (least-lone (λ t. t .csd) typeOf (q .csd) (typeAt b) _ _ 128)
 
-  -- 6. What is found in rising sequence is what the written meaning finds among the rules.
+  -- 5. What is found in rising sequence is what the written meaning finds among the rules.
+  -- A marked rule of a type is one that speaks, at its sequence.
+  rules : (t x sign : ℕ) → sign < 3 → rulesOn b q t (signKey x sign) ≡ anyBelow (λ i. rules-of t sign i && eqb (ruleAt b i .sequence) x) 512
+  unfolding rulesMatched ruleOfType rules-of
+  rules t x sign few =
+      keys-all signKeys (λ r. r .csd) (q .csd) (ruleAt b) signedKey (ruleOfType q (rowsMatched b q (codesBorne b q)) t) 512
+      (λ i l o e. let y = r .rules i l o in omega (arith, y .1, y .2)) (signKey x sign)
+      ∙ any-same _ _ 512
+      (λ i l.
+      cases (eqb (ruleAt b i .csd) (q .csd))
+      (λ e.
+      let o = eqb-true (ruleAt b i .csd) (q .csd) e in
+      rw (e, parts-eq 3 (ruleAt b i .sequence) (ruleAt b i .sign) x sign (r .rules i l o .2) few)
+      (of-type-order (eqb (ruleAt b i .number) t) (ruleMatches q (rowsMatched b q (codesBorne b q)) (ruleAt b i)) (eqb (ruleAt b i .sign) sign) (eqb (ruleAt b i .sequence) x)
+      ∙ spoken t sign i (eqb (ruleAt b i .sequence) x) l o))
+      (λ e. rw e))
+
   in-range : (t i : ℕ) → i < 512 → rules-of t positive i ≡ true → ruleAt b i .sequence < 100
   unfolding rules-of
   in-range t i l e = r .rules i l (eqb-true (ruleAt b i .csd) (q .csd) (search ands)) .1
 
-  decides : (t : ℕ) → firstRule (rulesOn b q) t ≡ deciding lone (asked q) t
+  decides : (t : ℕ) → firstRule (rulesOn b q t) ≡ deciding lone (asked q) t
   unfolding firstRule lone rules-of deciding rulesOf ruleOf
   decides t =
-      least-same _ _ 100 (λ x l. ap (λ z. cond z x 0) (rules t x positive l (omega arith)))
+      least-same _ _ 100 (λ x l. ap (λ z. cond z x 0) (rules t x positive (omega arith)))
       ∙ least-by (rules-of t positive) (λ i. ruleAt b i .sequence) 100 512 (in-range t)
       ∙ sym (least-lone (λ r. r .csd) ruleOf (q .csd) (ruleAt b) _ _ 512)
 

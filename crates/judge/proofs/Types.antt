@@ -1,6 +1,6 @@
 -- What the returns of the functions on rules, types and the verdict leave to show.
 use Prim.Native.Nat.{ℕ}
-use mathlib.Core.Path.{_≡_}
+use mathlib.Core.Path.{_≡_, ap, _∙_}
 use mathlib.Core.Bool.{Bool, _&&_, not, cond}
 use lib.Dec.{eqb}
 use borrow.Author.Tests.{ne-eqb}
@@ -9,23 +9,31 @@ use Rattle.meaning.specs.Judging.{covers, by}
 use Rattle.meaning.specs.declared.Deciding.{Deciding}
 use Rattle.places.specs.declared.RestrictionType.{RestrictionType}
 use Rattle.places.specs.declared.Rule.{Rule}
-use Rattle.judge.specs.Stages.{ruleKey, typeKey, ruleMatches, firstRule, typeApplies, decided, verdict}
+use Rattle.judge.specs.Stages.{ruleKey, typeKey, ruleMatches, ruleOfType, firstRule, typeApplies, decided, verdict}
 use Rattle.judge.specs.declared.Question.{Question}
 
 pub rule-by : (rows : ℕ → Bool) (q : Question) (r : Rule) (k : ℕ) (d m y x : Bool) → x ≡ (eqb (r .object) (q .object) && y) → y ≡ (d && m) → m ≡ rows k → k ≡ ruleKey (r .number) (r .sequence) → d ≡ covers (r .first) (r .last) (q .day) → x ≡ ruleMatches q rows r
 unfolding ruleMatches
 rule-by rows q r k d m y x ex ey em ek ed = rw (ex, ey, em, ek, ed)
 
+pub of-type-by : (rows : ℕ → Bool) (q : Question) (type : ℕ) (r : Rule) (m x : Bool) → x ≡ (eqb (r .number) type && m) → m ≡ ruleMatches q rows r → x ≡ ruleOfType q rows type r
+unfolding ruleOfType
+of-type-by rows q type r m x ex em = rw (ex, em)
+
 pub applies-by : (signs : ℕ → Bool) (q : Question) (t : RestrictionType) (kp kn : ℕ) (d x p n n′ y r : Bool) → r ≡ (x && y) → y ≡ (p && n′) → n′ ≡ not n → x ≡ (eqb (t .object) (q .object) && d) → n ≡ signs kn → kn ≡ typeKey (t .number) negative → p ≡ signs kp → kp ≡ typeKey (t .number) positive → d ≡ covers (t .first) (t .last) (q .day) → r ≡ typeApplies q signs t
 unfolding typeApplies
 applies-by signs q t kp kn d x p n n′ y r er ey en′ ex en ekn ep ekp ed = rw (er, ey, en′, ex, en, ekn, ep, ekp, ed)
 
-module _ (rules : ℕ → Bool) where
+-- the deciding rule of a type, by a table of marks
+pub deciding-by : (marks rules : ℕ → Bool) (f : ℕ) → f ≡ firstRule marks → marks ≡ rules → f ≡ firstRule rules
+deciding-by marks rules f e m = e ∙ ap firstRule m
+
+module _ (rules : ℕ → ℕ → Bool) where
   pub decided-none : (number : ℕ) → number ≡ 0 → by 0 0 ≡ decided rules number
   unfolding decided
   decided-none number e = rw e
 
-  pub decided-some : (number f : ℕ) → f ≡ firstRule rules number → (number ≡ 0 → ⊥) → by number f ≡ decided rules number
+  pub decided-some : (number f : ℕ) → f ≡ firstRule (rules number) → (number ≡ 0 → ⊥) → by number f ≡ decided rules number
   unfolding decided
   decided-some number f e d = rw (e, ne-eqb number 0 d)
 

@@ -1,5 +1,5 @@
--- How a question is judged over the places of the lent book, in one pass over each table, two over the rules. A stage leaves marks, tests of the keys of a table
--- of numbers; each definition is of any bytes. Assumes nothing.
+-- How a question is judged over the places of the lent book: one pass over each table, and one over the rules for each type that is named. A stage leaves marks,
+-- tests of the keys of a table of numbers; each definition is of any bytes. Assumes nothing.
 use Prim.Native.Nat.{ℕ, zero, suc, _+_, _*_, _<_, _≤_}
 use mathlib.Core.Path.{_≡_}
 use mathlib.Core.Bool.{Bool, false, _&&_, _||_, not, cond}
@@ -48,9 +48,9 @@ codeKey code kind = code * 4 + kind
 abbrev pub ruleKey : ℕ → ℕ → ℕ
 ruleKey type sequence = type * 100 + sequence
 
--- such a rule with its sign
-abbrev pub signKey : ℕ → ℕ → ℕ → ℕ
-signKey type sequence sign = ruleKey type sequence * 3 + sign
+-- a rule of one such type with its sign
+abbrev pub signKey : ℕ → ℕ → ℕ
+signKey sequence sign = sequence * 3 + sign
 
 -- a type of the question's object with the sign of a rule
 abbrev pub typeKey : ℕ → ℕ → ℕ
@@ -64,7 +64,7 @@ abbrev pub rowKey : Row → ℕ
 rowKey w = ruleKey (w .number) (w .sequence)
 
 abbrev pub signedKey : Rule → ℕ
-signedKey r = signKey (r .number) (r .sequence) (r .sign)
+signedKey r = signKey (r .sequence) (r .sign)
 
 abbrev pub typedKey : Rule → ℕ
 typedKey r = typeKey (r .number) (r .sign)
@@ -77,7 +77,7 @@ abbrev pub ruleKeys : ℕ
 ruleKeys = 10000
 
 abbrev pub signKeys : ℕ
-signKeys = 30000
+signKeys = 300
 
 abbrev pub typeKeys : ℕ
 typeKeys = 300
@@ -141,22 +141,11 @@ unfoldable pub rowsMatched : List ℕ → Question → (ℕ → Bool) → ℕ �
 rowsMatched b q codes =
     keys (λ w. w .csd) (q .csd) (rowAt b) rowKey (rowMatches q codes) ruleKeys 1024
 
--- ---- 3. the rules of each sign that match
+-- ---- 3. the signs of which a rule of a type matches
 
 unfoldable pub ruleMatches : Question → (ℕ → Bool) → Rule → Bool
 ruleMatches q rows r =
     eqb (r .object) (q .object) && (covers (r .first) (r .last) (q .day) && rows (ruleKey (r .number) (r .sequence)))
-
--- the table of matching rules, after the rule at place i
-abbrev pub markRule : List ℕ → Question → (ℕ → Bool) → ℕ → List ℕ → List ℕ
-markRule b q rows i t =
-    afterPlace (λ r. r .csd) (q .csd) signedKey (ruleMatches q rows) (λ r m. 1) (ruleAt b i) t
-
-unfoldable pub rulesMatched : List ℕ → Question → (ℕ → Bool) → ℕ → Bool
-rulesMatched b q rows =
-    keys (λ r. r .csd) (q .csd) (ruleAt b) signedKey (ruleMatches q rows) signKeys 512
-
--- ---- 4. the signs of which a rule of a type matches
 
 -- the table of signs, after the rule at place i
 abbrev pub markSign : List ℕ → Question → (ℕ → Bool) → ℕ → List ℕ → List ℕ
@@ -167,7 +156,7 @@ unfoldable pub signsMatched : List ℕ → Question → (ℕ → Bool) → ℕ �
 signsMatched b q rows =
     keys (λ r. r .csd) (q .csd) (ruleAt b) typedKey (ruleMatches q rows) typeKeys 512
 
--- ---- 5. the lowest type of each processing
+-- ---- 4. the lowest type of each processing
 
 -- a current type, of which a positive rule matches and no negative one does
 unfoldable pub typeApplies : Question → (ℕ → Bool) → RestrictionType → Bool
@@ -184,14 +173,28 @@ unfoldable pub typesNamed : List ℕ → Question → (ℕ → Bool) → ℕ →
 typesNamed b q signs =
     leasts (λ t. t .csd) (q .csd) (typeAt b) (λ t. t .processing) (typeApplies q signs) (λ t. t .number) 4 128
 
--- ---- 6. the rules of a type that is named, looked through in rising sequence
+-- ---- 5. the rules of a type that is named, looked through in rising sequence
 
--- the rule of a type at a sequence, by the marks of its two signs; a sound book has one rule there at most
-abbrev pub judgedRule : (ℕ → Bool) → ℕ → ℕ → Judged
-judgedRule rules type s = record {
+-- a rule of that type that matches
+unfoldable pub ruleOfType : Question → (ℕ → Bool) → ℕ → Rule → Bool
+unfolding ruleMatches
+ruleOfType q rows type r = eqb (r .number) type && ruleMatches q rows r
+
+-- the table of the type's matching rules, after the rule at place i
+abbrev pub markRule : List ℕ → Question → (ℕ → Bool) → ℕ → ℕ → List ℕ → List ℕ
+markRule b q rows type i t =
+    afterPlace (λ r. r .csd) (q .csd) signedKey (ruleOfType q rows type) (λ r m. 1) (ruleAt b i) t
+
+unfoldable pub rulesMatched : List ℕ → Question → (ℕ → Bool) → ℕ → ℕ → Bool
+rulesMatched b q rows type =
+    keys (λ r. r .csd) (q .csd) (ruleAt b) signedKey (ruleOfType q rows type) signKeys 512
+
+-- the type's rule at a sequence, by the marks of its two signs; a sound book has one rule there at most
+abbrev pub judgedRule : (ℕ → Bool) → ℕ → Judged
+judgedRule rules s = record {
   sequence = s;
-  sign = cond (rules (signKey type s positive)) positive negative;
-  matches = rules (signKey type s positive) || rules (signKey type s negative);
+  sign = cond (rules (signKey s positive)) positive negative;
+  matches = rules (signKey s positive) || rules (signKey s negative);
 }
 
 -- no rule at any sequence
@@ -199,23 +202,23 @@ unfoldable pub noneListed : List Judged
 noneListed = replicate 100 noRule
 
 -- the rules of a type below sequence n, each at the place of its sequence; no rule has sequence 0
-pub record Listed (rules : ℕ → Bool) (type n : ℕ) (t : List Judged) : Type 0 where
+pub record Listed (rules : ℕ → Bool) (n : ℕ) (t : List Judged) : Type 0 where
   pub long : length t ≡ 100
   pub none : getD t 0 noRule ≡ noRule
-  pub each : (s : ℕ) → 1 ≤ s → s < n → getD t s noRule ≡ judgedRule rules type s
+  pub each : (s : ℕ) → 1 ≤ s → s < n → getD t s noRule ≡ judgedRule rules s
 
--- the first positive rule of that type that matches, 0 where none does
-unfoldable pub firstRule : (ℕ → Bool) → ℕ → ℕ
-firstRule rules type = leastBelow (λ s. cond (rules (signKey type s positive)) s 0) 100
+-- the first positive rule of the type that matches, 0 where none does
+unfoldable pub firstRule : (ℕ → Bool) → ℕ
+firstRule rules = leastBelow (λ s. cond (rules (signKey s positive)) s 0) 100
 
 -- ---- the verdict
 
--- the type, if any, with its deciding rule
-unfoldable pub decided : (ℕ → Bool) → ℕ → Deciding
-decided rules type = by type (cond (eqb type 0) 0 (firstRule rules type))
+-- the type, if any, with its deciding rule: rules gives the marks of each type
+unfoldable pub decided : (ℕ → ℕ → Bool) → ℕ → Deciding
+decided rules type = by type (cond (eqb type 0) 0 (firstRule (rules type)))
 
 -- by the type named for each processing, 0 for none: a rejected instruction shows no hold
-unfoldable pub verdict : (ℕ → Bool) → (ℕ → ℕ) → Verdict
+unfoldable pub verdict : (ℕ → ℕ → Bool) → (ℕ → ℕ) → Verdict
 verdict rules named = record {
   rejected = not (eqb (named rejection) 0);
   rejection = decided rules (named rejection);
@@ -223,8 +226,8 @@ verdict rules named = record {
   party = decided rules (cond (eqb (named rejection) 0) (named partyHold) 0);
 }
 
--- the rules that match the question, by the book's bytes
-abbrev pub rulesOn : List ℕ → Question → ℕ → Bool
+-- the rules of each type that match the question, by the book's bytes
+abbrev pub rulesOn : List ℕ → Question → ℕ → ℕ → Bool
 rulesOn b q = rulesMatched b q (rowsMatched b q (codesBorne b q))
 
 -- the signs of each type of which a rule matches, by the book's bytes

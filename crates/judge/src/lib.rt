@@ -1,14 +1,17 @@
-// A question judged over the lent book in one pass over each table, two over the rules, by tables of numbers that are addressed by key
-// (document 01, 'How a question is judged'). A place of another depository is passed over by its first byte.
+// A question judged over the lent book in one pass over each table, by tables of numbers that are addressed by key, and one over the rules for each type that the
+// verdict names (document 01, 'How a question is judged'). A pass goes from each place of the depository to its next.
 ghost use mathlib.Core.Path.{_≡_};
 ghost use mathlib.Core.Bool.{_&&_, _||_, not, cond};
 ghost use lib.ListN.{set, getD};
 ghost use Rattle.tables.specs.Count.{lesser};
 ghost use Rattle.tables.specs.Keyed.{marked, Blank};
 ghost use Rattle.meaning.specs.Judging.{covers};
-ghost use Rattle.judge.specs.Stages.{codeKey, ruleKey, signKey, typeKey, codeKeys, ruleKeys, signKeys, typeKeys, sought, borneBy, markCode, codesBorne, tests, testAt, valueMet, valuesMet, rowMatches, markRow, rowsMatched, ruleMatches, markRule, rulesMatched, markSign, signsMatched, typeApplies, nameType, typesNamed, judgedRule, noneListed, Listed, firstRule, decided, verdict, judgedBy};
+ghost use Rattle.judge.specs.Stages.{codeKey, ruleKey, signKey, typeKey, codeKeys, ruleKeys, signKeys, typeKeys, sought, borneBy, markCode, codesBorne, tests, testAt, valueMet, valuesMet, rowMatches, markRow, rowsMatched, ruleMatches, ruleOfType, markRule, rulesMatched, markSign, signsMatched, typeApplies, nameType, typesNamed, judgedRule, noneListed, Listed, firstRule, decided, verdict, judgedBy};
 use meaning::Deciding;
 use meaning::Verdict;
+use owners::next_row;
+use owners::next_rule;
+use owners::next_type;
 use places::Period;
 use places::RestrictionType;
 use places::Row;
@@ -97,10 +100,10 @@ fn rule_key(number: u8, sequence: u8) -> usize
     number as usize * 100 + sequence as usize
 }
 
-fn sign_key(number: u8, sequence: u16, sign: u8) -> usize
-    ensures { λ r. ⌜ r ≡ signKey number sequence sign ⌝ }
+fn sign_key(sequence: u16, sign: u8) -> usize
+    ensures { λ r. ⌜ r ≡ signKey sequence sign ⌝ }
 {
-    (number as usize * 100 + sequence as usize) * 3 + sign as usize
+    sequence as usize * 3 + sign as usize
 }
 
 fn type_key(number: u8, sign: u8) -> usize
@@ -129,10 +132,10 @@ fn no_rows() -> [u8; 10000]
     [0; 10000]
 }
 
-fn no_rules() -> [u8; 30000]
+fn no_rules() -> [u8; 300]
     ensures { λ r. ⌜ Blank signKeys r ⌝ }
 {
-    [0; 30000]
+    [0; 300]
 }
 
 fn no_signs() -> [u8; 300]
@@ -288,8 +291,14 @@ fn rows_matched(t: &mut [u8], b: &[u8], q: Question, codes: &[u8])
     requires { ⌜ Blank ruleKeys (now t) ⌝ }
     ensures { λ _. ⌜ marked (now (t .exit)) ≡ rowsMatched (now (b .entry)) q (marked (now (codes .entry))) ⌝ }
 {
-    for i in 0..Row::PLACES {
-        mark_row(t, b, q, codes, i);
+    let mut i: u16 = 0;
+    while i < Row::PLACES {
+        let k = next_row(b, i, q.csd);
+        if k == Row::PLACES {
+            return;
+        }
+        mark_row(t, b, q, codes, k);
+        i = k + 1;
     }
 }
 
@@ -303,7 +312,7 @@ fn rows_judged(t: &mut [u8], b: &[u8], q: Question)
     rows_matched(t, b, q, &codes);
 }
 
-// 3. The rules of each sign that match.
+// 3. The signs of which a rule of a type matches.
 
 // A rule counts only while its own period holds the day, a negative one too.
 fn rule_matches(q: Question, rows: &[u8], r: Rule) -> bool
@@ -313,29 +322,6 @@ fn rule_matches(q: Question, rows: &[u8], r: Rule) -> bool
     let matched = is_marked(rows, rule_key(r.number, r.sequence));
     and(r.object == q.object, and(current, matched))
 }
-
-// Marks the rule at a place by its sequence and sign, if it matches.
-fn mark_rule(t: &mut [u8], b: &[u8], q: Question, rows: &[u8], i: u16)
-    ensures { λ _. ⌜ now (t .exit) ≡ markRule (now (b .entry)) q (marked (now (rows .entry))) i (now (t .entry)) ⌝ }
-{
-    if places::rule_csd(b, i) == q.csd {
-        let r = places::rule_at(b, i);
-        let sequence = r.sequence as u16;
-        let key = sign_key(r.number, sequence, r.sign);
-        store(t, key, rule_matches(q, rows, r), 1);
-    }
-}
-
-fn rules_matched(t: &mut [u8], b: &[u8], q: Question, rows: &[u8])
-    requires { ⌜ Blank signKeys (now t) ⌝ }
-    ensures { λ _. ⌜ marked (now (t .exit)) ≡ rulesMatched (now (b .entry)) q (marked (now (rows .entry))) ⌝ }
-{
-    for i in 0..Rule::PLACES {
-        mark_rule(t, b, q, rows, i);
-    }
-}
-
-// 4. The signs of which a rule of a type matches.
 
 // Marks the sign of the rule at a place for its type, if the rule matches.
 fn mark_sign(t: &mut [u8], b: &[u8], q: Question, rows: &[u8], i: u16)
@@ -352,13 +338,19 @@ fn signs_matched(b: &[u8], q: Question, rows: &[u8]) -> [u8; 300]
     ensures { λ r. ⌜ marked r ≡ signsMatched (now (b .entry)) q (marked (now (rows .entry))) ⌝ }
 {
     let mut t = no_signs();
-    for i in 0..Rule::PLACES {
-        mark_sign(&mut t, b, q, rows, i);
+    let mut i: u16 = 0;
+    while i < Rule::PLACES {
+        let k = next_rule(b, i, q.csd);
+        if k == Rule::PLACES {
+            return t;
+        }
+        mark_sign(&mut t, b, q, rows, k);
+        i = k + 1;
     }
     t
 }
 
-// 5. The lowest type of each processing.
+// 4. The lowest type of each processing.
 
 // A current type, of which a positive rule matches and no negative one does, wherever it stands in sequence.
 fn type_applies(q: Question, signs: &[u8], t: RestrictionType) -> bool
@@ -389,21 +381,59 @@ fn types_named(b: &[u8], q: Question, signs: &[u8]) -> [u8; 4]
     ensures { λ r. ⌜ (λ k. getD r k 0) ≡ typesNamed (now (b .entry)) q (marked (now (signs .entry))) ⌝ }
 {
     let mut t = no_types();
-    for i in 0..RestrictionType::PLACES {
-        name_type(&mut t, b, q, signs, i);
+    let mut i: u16 = 0;
+    while i < RestrictionType::PLACES {
+        let k = next_type(b, i, q.csd);
+        if k == RestrictionType::PLACES {
+            return t;
+        }
+        name_type(&mut t, b, q, signs, k);
+        i = k + 1;
     }
     t
 }
 
-// 6. The rules of a type that is named, looked through in rising sequence.
+// 5. The rules of a type that is named, looked through in rising sequence.
 
-// The rule of a type at a sequence, as judged. A sound book has one rule there at most, so one mark.
-fn judged_rule(rules: &[u8], number: u8, sequence: u8) -> Judged
-    ensures { λ r. ⌜ r ≡ judgedRule (marked (now (rules .entry))) number sequence ⌝ }
+fn rule_of_type(q: Question, rows: &[u8], number: u8, r: Rule) -> bool
+    ensures { λ x. ⌜ x ≡ ruleOfType q (marked (now (rows .entry))) number r ⌝ }
+{
+    and(r.number == number, rule_matches(q, rows, r))
+}
+
+// Marks the rule at a place by its sequence and sign, if it is the type's and matches.
+fn mark_rule(t: &mut [u8], b: &[u8], q: Question, rows: &[u8], number: u8, i: u16)
+    ensures { λ _. ⌜ now (t .exit) ≡ markRule (now (b .entry)) q (marked (now (rows .entry))) number i (now (t .entry)) ⌝ }
+{
+    if places::rule_csd(b, i) == q.csd {
+        let r = places::rule_at(b, i);
+        let key = sign_key(r.sequence as u16, r.sign);
+        store(t, key, rule_of_type(q, rows, number, r), 1);
+    }
+}
+
+fn rules_matched(t: &mut [u8], b: &[u8], q: Question, rows: &[u8], number: u8)
+    requires { ⌜ Blank signKeys (now t) ⌝ }
+    ensures { λ _. ⌜ marked (now (t .exit)) ≡ rulesMatched (now (b .entry)) q (marked (now (rows .entry))) number ⌝ }
+{
+    let mut i: u16 = 0;
+    while i < Rule::PLACES {
+        let k = next_rule(b, i, q.csd);
+        if k == Rule::PLACES {
+            return;
+        }
+        mark_rule(t, b, q, rows, number, k);
+        i = k + 1;
+    }
+}
+
+// The type's rule at a sequence, as judged. A sound book has one rule there at most, so one mark.
+fn judged_rule(rules: &[u8], sequence: u8) -> Judged
+    ensures { λ r. ⌜ r ≡ judgedRule (marked (now (rules .entry))) sequence ⌝ }
 {
     let s = sequence as u16;
-    let positive = is_marked(rules, sign_key(number, s, 1));
-    let negative = is_marked(rules, sign_key(number, s, 2));
+    let positive = is_marked(rules, sign_key(s, 1));
+    let negative = is_marked(rules, sign_key(s, 2));
     Judged {
         sequence,
         sign: pick(positive, 1, 2),
@@ -424,29 +454,38 @@ fn none_listed() -> [Judged; 100]
 }
 
 // The rules of a type, each at the place of its sequence. No rule has sequence 0.
-fn rules_listed(rules: &[u8], number: u8) -> [Judged; 100]
-    ensures { λ r. ⌜ Listed (marked (now (rules .entry))) number 100 r ⌝ }
+fn rules_listed(rules: &[u8]) -> [Judged; 100]
+    ensures { λ r. ⌜ Listed (marked (now (rules .entry))) 100 r ⌝ }
 {
     let mut t = none_listed();
     for s in 1..100 {
-        t[s as usize] = judged_rule(rules, number, s);
+        t[s as usize] = judged_rule(rules, s);
     }
     t
 }
 
 // The first positive rule of a type that matches, 0 where none does.
-fn first_rule(rules: &[u8], number: u8) -> u8
-    ensures { λ r. ⌜ r ≡ firstRule (marked (now (rules .entry))) number ⌝ }
+fn first_rule(rules: &[u8]) -> u8
+    ensures { λ r. ⌜ r ≡ firstRule (marked (now (rules .entry))) ⌝ }
 {
-    match rules::first_of(rules_listed(rules, number)) {
+    match rules::first_of(rules_listed(rules)) {
         First::At(sequence) => sequence,
         First::Nothing => 0,
     }
 }
 
+// The deciding rule of a type.
+fn deciding_rule(b: &[u8], q: Question, rows: &[u8], number: u8) -> u8
+    ensures { λ r. ⌜ r ≡ firstRule (rulesMatched (now (b .entry)) q (marked (now (rows .entry))) number) ⌝ }
+{
+    let mut rules = no_rules();
+    rules_matched(&mut rules, b, q, rows, number);
+    first_rule(&rules)
+}
+
 // A type, if any, with its deciding rule.
-fn decided(rules: &[u8], number: u8) -> Deciding
-    ensures { λ r. ⌜ r ≡ decided (marked (now (rules .entry))) number ⌝ }
+fn decided(b: &[u8], q: Question, rows: &[u8], number: u8) -> Deciding
+    ensures { λ r. ⌜ r ≡ decided (rulesMatched (now (b .entry)) q (marked (now (rows .entry)))) number ⌝ }
 {
     if number == 0 {
         return Deciding {
@@ -456,13 +495,13 @@ fn decided(rules: &[u8], number: u8) -> Deciding
     }
     Deciding {
         number,
-        sequence: first_rule(rules, number),
+        sequence: deciding_rule(b, q, rows, number),
     }
 }
 
 // Rejection comes first, and a rejected instruction shows no hold.
-fn verdict(rules: &[u8], named: &[u8]) -> Verdict
-    ensures { λ r. ⌜ r ≡ verdict (marked (now (rules .entry))) (λ k. getD (now (named .entry)) k 0) ⌝ }
+fn verdict(b: &[u8], q: Question, rows: &[u8], named: &[u8]) -> Verdict
+    ensures { λ r. ⌜ r ≡ verdict (rulesMatched (now (b .entry)) q (marked (now (rows .entry)))) (λ k. getD (now (named .entry)) k 0) ⌝ }
 {
     let rejecting = look(named, 1);
     let accepted = rejecting == 0;
@@ -470,9 +509,9 @@ fn verdict(rules: &[u8], named: &[u8]) -> Verdict
     let party = pick(accepted, look(named, 3), 0);
     Verdict {
         rejected: no(accepted),
-        rejection: decided(rules, rejecting),
-        validation: decided(rules, validation),
-        party: decided(rules, party),
+        rejection: decided(b, q, rows, rejecting),
+        validation: decided(b, q, rows, validation),
+        party: decided(b, q, rows, party),
     }
 }
 
@@ -482,9 +521,7 @@ pub fn judge(book: &[u8], q: Question) -> Verdict
 {
     let mut rows = no_rows();
     rows_judged(&mut rows, book, q);
-    let mut rules = no_rules();
-    rules_matched(&mut rules, book, q, &rows);
     let signs = signs_matched(book, q, &rows);
     let named = types_named(book, q, &signs);
-    verdict(&rules, &named)
+    verdict(book, q, &rows, &named)
 }

@@ -12,6 +12,10 @@ use Rattle.tables.proofs.Counts.{cases-eq}
 use Rattle.owners.specs.Next.{next, Passed}
 use Rattle.owners.proofs.Finding.{next-low, next-high, next-passed}
 
+-- The next place is none before.
+pub next-within : (p : ℕ → Bool) (places i k : ℕ) → k ≡ next p places i → i ≤ places → (i ≤ k) × (k ≤ places)
+next-within p places i k e l = (omega (arith, e, next-low p places i l), omega (arith, e, next-high p places i))
+
 -- A fold over the places below n that does not change at places where p does not hold.
 fold-over : {A : Type 0} (f : ℕ → A) (p : ℕ → Bool) → ((j : ℕ) → p j ≡ false → f (suc j) ≡ f j) → (i k : ℕ) → i ≤ k → Passed p i k → f k ≡ f i
 fold-over f p h i zero l g = let e : 0 ≡ i = omega arith in ap f e
@@ -24,9 +28,6 @@ module _ {P : Type 0} (csd : P → ℕ) (a : ℕ) (at : ℕ → P) (places : ℕ
   fold-next f h i k e l =
       fold-over f (λ j. eqb (csd (at j)) a) h i k (omega (arith, e, next-low (λ j. eqb (csd (at j)) a) places i l))
       (rw e (next-passed (λ j. eqb (csd (at j)) a) places i l))
-
-  pub next-most : (i k : ℕ) → k ≡ next (λ j. eqb (csd (at j)) a) places i → k ≤ places
-  next-most i k e = omega (arith, e, next-high (λ j. eqb (csd (at j)) a) places i)
 
   -- A count of its places.
   pub count-next : (f : P → Bool) (i k n : ℕ) → k ≡ next (λ j. eqb (csd (at j)) a) places i → i ≤ places → n ≡ countBelow (λ j. eqb (csd (at j)) a && f (at j)) i → n ≡ countBelow (λ j. eqb (csd (at j)) a && f (at j)) k

@@ -1,21 +1,16 @@
 -- `judge::judge` meets its contract. Assumes nothing.
-use Rattle.judge.specs.Stages.{judgedBy}
+use Rattle.judge.proofs.Judging.{by-stages}
 use borrow.Author.Needs.{needs}
 use Rattle.judge.proofs.judge.Statement.{statement}
 use Rattle.judge.proofs.judge.Tie as tie
 
 pub judge-spec : {M : Type 1} → statement M
-unfolding judgedBy
 judge-spec =
     tie.close
     (tie.spec
     (λ c κs. search needs)
     (λ c. search needs)
     (λ c κs. search needs)
-    (λ c κs. search needs)
-    (λ c. search needs)
-    (λ c. search needs)
-    (λ c κs. search needs)
     (λ c. search needs)
     (λ c κs. search needs)
     (λ c. search needs)
@@ -23,4 +18,4 @@ judge-spec =
     (λ c. search needs)
     (λ c. search needs)
     (λ c κs. search needs)
-    (λ c. cc))
+    (λ c. search by-stages))

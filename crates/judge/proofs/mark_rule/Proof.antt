@@ -1,7 +1,7 @@
--- `judge::mark_rule` meets its contract; facts are named, so that a wrong one is refused for certain. Assumes nothing.
+-- `judge::mark_rule` meets its contract. Assumes nothing.
 use mathlib.Core.Path.{refl}
-use borrow.Author.Needs.{needs}
 use Rattle.tables.proofs.Keying.{place-own, place-other}
+use borrow.Author.Needs.{needs}
 use Rattle.judge.proofs.mark_rule.Statement.{statement}
 use Rattle.judge.proofs.mark_rule.Tie as tie
 
@@ -21,7 +21,7 @@ mark-rule-spec =
     let own = keyed .before .before .before in
     place-own _ _ _ _ _ _ _ _ _ _ _ _ _
     (c .before .before .store .ensures)
-    (c .before .before .before .rule-matches .ensures)
+    (c .before .before .before .rule-of-type .ensures)
     refl
     (keyed .sign-key .ensures)
     (keyed .before .before .rule-at .ensures)

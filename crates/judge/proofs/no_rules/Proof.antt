@@ -8,4 +8,4 @@ pub no-rules-spec : {M : Type 1} → statement M
 no-rules-spec =
     tie.close
     (tie.spec
-    (λ c. record { long = length-replicate {A = ℕ} 30000 0; each = λ k l. getD-replicate {A = ℕ} 30000 k 0 0 l }))
+    (λ c. record { long = length-replicate {A = ℕ} 300 0; each = λ k l. getD-replicate {A = ℕ} 300 k 0 0 l }))

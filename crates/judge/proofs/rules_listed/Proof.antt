@@ -10,10 +10,10 @@ use Rattle.judge.proofs.rules_listed.Statement.{statement}
 use Rattle.judge.proofs.rules_listed.Tie as tie
 
 abbrev Inv-loop : tie.InvT-loop
-Inv-loop rules number t₀ s₀ t s = (1 ≤ s) × ((s ≤ 100) × Listed (marked rules) number s t)
+Inv-loop rules t₀ s₀ t s = (1 ≤ s) × ((s ≤ 100) × Listed (marked rules) s t)
 
 abbrev μ-loop : tie.MeasureT-loop
-μ-loop rules number t₀ s₀ t s = 100 - s
+μ-loop rules t₀ s₀ t s = 100 - s
 
 pub rules-listed-spec : {M : Type 1} → statement M
 rules-listed-spec =

@@ -1,24 +1,27 @@
 -- `judge::rules_matched` meets its contract. Assumes nothing.
 use Prim.Native.Nat.{_-_, _≤_}
-use mathlib.Core.Path.{_≡_}
+use mathlib.Core.Path.{_≡_, refl}
 use native.Mathlib.Omega.{arith}
 use lib.ListN.{length}
-use borrow.Author.Needs.{needs}
 use Rattle.tables.specs.Keyed.{marked, Keyed}
-use Rattle.tables.proofs.Keying.{keyed-none, keyed-more, keyed-marks}
+use Rattle.tables.proofs.Keying.{keyed-none, keyed-marks}
+use Rattle.owners.specs.Next.{nextRule}
+use Rattle.owners.proofs.Passing.{next-within}
 use Rattle.places.specs.Layout.{ruleAt}
-use Rattle.judge.specs.Stages.{signedKey, signKeys, ruleMatches, rulesMatched}
+use Rattle.judge.specs.Stages.{signedKey, signKeys, ruleOfType, rulesMatched}
+use Rattle.judge.proofs.Passes.{pass-more, pass-end}
+use borrow.Author.Needs.{needs}
 use Rattle.judge.proofs.rules_matched.Statement.{statement}
 use Rattle.judge.proofs.rules_matched.Tie as tie
 
 abbrev Inv-loop : tie.InvT-loop
-Inv-loop t₀ b q rows i₀ t i = (i ≤ 512) × (length t ≡ length t₀) × Keyed signKeys (λ r. r .csd) (q .csd) (ruleAt b) (signedKey) (ruleMatches q (marked rows)) (λ r m. 1) t i
+Inv-loop t₀ b q rows number i₀ t i = (i ≤ 512) × (length t ≡ length t₀) × Keyed signKeys (λ r. r .csd) (q .csd) (ruleAt b) signedKey (ruleOfType q (marked rows) number) (λ r m. 1) t i
 
 abbrev μ-loop : tie.MeasureT-loop
-μ-loop t₀ b q rows i₀ t i = 512 - i
+μ-loop t₀ b q rows number i₀ t i = 512 - i
 
 pub rules-matched-spec : {M : Type 1} → statement M
-unfolding rulesMatched
+unfolding rulesMatched nextRule
 rules-matched-spec =
     tie.close
     (tie.spec
@@ -26,8 +29,11 @@ rules-matched-spec =
     μ-loop
     (λ c. (search needs, search needs, search keyed-none))
     (λ c κs. search needs)
-    (λ c. omega arith)
-    (λ c. omega arith)
-    (λ c. (omega arith, search needs, search keyed-more))
+    (λ c. search needs)
+    (λ c. keyed-marks _ _ _ _ _ _ _ 512 512 (pass-end _ _ _ _ _ _ _ _ _ _ _ (c .before .next-rule .ensures) (c .before .before .before .loop .inv .0) (c .if1 .taken) (c .before .before .before .loop .inv .2)) refl)
+    (λ c κs. search needs)
+    (λ c. omega (arith, next-within _ _ _ _ (c .before .before .before .before .before .next-rule .ensures) (c .before .before .before .before .before .before .before .loop .inv .0)))
+    (λ c. omega (arith, next-within _ _ _ _ (c .before .before .before .before .before .next-rule .ensures) (c .before .before .before .before .before .before .before .loop .inv .0)))
+    (λ c. (omega (arith, next-within _ _ _ _ (c .before .before .before .before .before .next-rule .ensures) (c .before .before .before .before .before .before .before .loop .inv .0)), search needs, search pass-more))
     (λ c. search needs)
     (λ c. let e : c .before .loop .i ≡ 512 = omega arith in search keyed-marks))

@@ -1,12 +1,15 @@
 -- `judge::signs_matched` meets its contract. Assumes nothing.
 use Prim.Native.Nat.{_-_, _≤_}
-use mathlib.Core.Path.{_≡_}
+use mathlib.Core.Path.{_≡_, refl}
 use native.Mathlib.Omega.{arith}
-use borrow.Author.Needs.{needs}
 use Rattle.tables.specs.Keyed.{marked, Keyed}
-use Rattle.tables.proofs.Keying.{keyed-none, keyed-more, keyed-marks}
+use Rattle.tables.proofs.Keying.{keyed-none, keyed-marks}
+use Rattle.owners.specs.Next.{nextRule}
+use Rattle.owners.proofs.Passing.{next-within}
 use Rattle.places.specs.Layout.{ruleAt}
 use Rattle.judge.specs.Stages.{typedKey, typeKeys, ruleMatches, signsMatched}
+use Rattle.judge.proofs.Passes.{pass-more, pass-end}
+use borrow.Author.Needs.{needs}
 use Rattle.judge.proofs.signs_matched.Statement.{statement}
 use Rattle.judge.proofs.signs_matched.Tie as tie
 
@@ -17,7 +20,7 @@ abbrev μ-loop : tie.MeasureT-loop
 μ-loop b q rows t₀ i₀ t i = 512 - i
 
 pub signs-matched-spec : {M : Type 1} → statement M
-unfolding signsMatched
+unfolding signsMatched nextRule
 signs-matched-spec =
     tie.close
     (tie.spec
@@ -25,9 +28,11 @@ signs-matched-spec =
     μ-loop
     (λ c κs. search needs)
     (λ c. (search needs, search keyed-none))
+    (λ c κs. search needs)
+    (λ c. keyed-marks _ _ _ _ _ _ _ 512 512 (pass-end _ _ _ _ _ _ _ _ _ _ _ (c .before .next-rule .ensures) (c .before .before .before .loop .inv .0) (c .if1 .taken) (c .before .before .before .loop .inv .1)) refl)
     (λ c. search needs)
     (λ c κs. search needs)
-    (λ c. omega arith)
-    (λ c. omega arith)
-    (λ c. (omega arith, search keyed-more))
+    (λ c. omega (arith, next-within _ _ _ _ (c .before .before .before .before .next-rule .ensures) (c .before .before .before .before .before .before .loop .inv .0)))
+    (λ c. omega (arith, next-within _ _ _ _ (c .before .before .before .before .next-rule .ensures) (c .before .before .before .before .before .before .loop .inv .0)))
+    (λ c. (omega (arith, next-within _ _ _ _ (c .before .before .before .before .next-rule .ensures) (c .before .before .before .before .before .before .loop .inv .0)), search pass-more))
     (λ c. let e : c .before .loop .i ≡ 512 = omega arith in search keyed-marks))

@@ -1,13 +1,16 @@
 -- `judge::types_named` meets its contract. Assumes nothing.
 use Prim.Native.Nat.{_-_, _≤_}
-use mathlib.Core.Path.{_≡_}
+use mathlib.Core.Path.{_≡_, refl}
 use native.Mathlib.Omega.{arith}
-use borrow.Author.Needs.{needs}
 use Rattle.tables.specs.Keyed.{marked, Keyed}
 use Rattle.tables.specs.Count.{lesser}
-use Rattle.tables.proofs.Keying.{keyed-none, keyed-more, keyed-leasts}
+use Rattle.tables.proofs.Keying.{keyed-none, keyed-leasts}
+use Rattle.owners.specs.Next.{nextType}
+use Rattle.owners.proofs.Passing.{next-within}
 use Rattle.places.specs.Layout.{typeAt}
 use Rattle.judge.specs.Stages.{typeApplies, typesNamed}
+use Rattle.judge.proofs.Passes.{pass-more, pass-end}
+use borrow.Author.Needs.{needs}
 use Rattle.judge.proofs.types_named.Statement.{statement}
 use Rattle.judge.proofs.types_named.Tie as tie
 
@@ -18,7 +21,7 @@ abbrev μ-loop : tie.MeasureT-loop
 μ-loop b q signs t₀ i₀ t i = 128 - i
 
 pub types-named-spec : {M : Type 1} → statement M
-unfolding typesNamed
+unfolding typesNamed nextType
 types-named-spec =
     tie.close
     (tie.spec
@@ -26,9 +29,11 @@ types-named-spec =
     μ-loop
     (λ c κs. search needs)
     (λ c. (search needs, search keyed-none))
+    (λ c κs. search needs)
+    (λ c. keyed-leasts _ _ _ _ _ _ _ _ 128 128 (pass-end _ _ _ _ _ _ _ _ _ _ _ (c .before .next-type .ensures) (c .before .before .before .loop .inv .0) (c .if1 .taken) (c .before .before .before .loop .inv .1)) refl)
     (λ c. search needs)
     (λ c κs. search needs)
-    (λ c. omega arith)
-    (λ c. omega arith)
-    (λ c. (omega arith, search keyed-more))
+    (λ c. omega (arith, next-within _ _ _ _ (c .before .before .before .before .next-type .ensures) (c .before .before .before .before .before .before .loop .inv .0)))
+    (λ c. omega (arith, next-within _ _ _ _ (c .before .before .before .before .next-type .ensures) (c .before .before .before .before .before .before .loop .inv .0)))
+    (λ c. (omega (arith, next-within _ _ _ _ (c .before .before .before .before .next-type .ensures) (c .before .before .before .before .before .before .loop .inv .0)), search pass-more))
     (λ c. let e : c .before .loop .i ≡ 128 = omega arith in keyed-leasts _ _ _ _ _ _ _ _ _ 128 (c .before .loop .inv .1) e))
