@@ -1,3 +1,4 @@
+pub mod Flagging
 pub mod Judging
 pub mod Rows
 pub mod Types

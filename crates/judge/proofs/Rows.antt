@@ -1,24 +1,24 @@
 -- Laws of a row's values: the arms of the code's match on a criterion, and that each value is met exactly as the written meaning asks.
-use Prim.Native.Nat.{ℕ, zero, suc, _≤_}
+use Prim.Native.Nat.{ℕ, zero, suc, _+_, _≤_, _<_}
 use mathlib.Core.Path.{_≡_, refl, ap, sym, _∙_, subst⁻¹}
-use mathlib.Core.Bool.{Bool, true, false, _&&_, _||_, and-true}
+use mathlib.Core.Bool.{Bool, true, false, _&&_, _||_, not, and-true, false≢true}
 use mathlib.Core.List.{List, [], _∷_}
 use native.Mathlib.Omega.{arith}
 use lib.Dec.{eqb}
 use lib.ListN.{length, getD}
 use borrow.Author.Tests.{ne-eqb}
 use Rattle.tables.specs.Count.{allBelow}
-use Rattle.tables.specs.Keyed.{marked}
-use Rattle.tables.proofs.Counts.{cases-eq}
+use Rattle.tables.proofs.Counts.{cases, cases-eq, all-more, all-at}
 use Rattle.meaning.specs.Judging.{meetsAll}
+use Rattle.judge.specs.Flags.{flagged}
 use Rattle.judge.specs.Stages.{testAt, valueMet, valuesMet}
 
 -- A criterion, by the arm of its number.
 pub arm : (fs : List (ℕ → Bool)) (i k v : ℕ) (r : Bool) → i ≡ k → r ≡ testAt fs k v → r ≡ testAt fs i v
 arm fs i k v r e f = rw (e, f)
 
-pub arm-marked : (fs : List (ℕ → Bool)) (t : List ℕ) (i k v x y : ℕ) (r : Bool) → i ≡ k → r ≡ marked t x → x ≡ y → marked t y ≡ testAt fs k v → r ≡ testAt fs i v
-arm-marked fs t i k v x y r e f g h = rw e (f ∙ ap (marked t) g ∙ h)
+pub arm-flagged : (fs : List (ℕ → Bool)) (t : List ℕ) (i k v x y : ℕ) (r : Bool) → i ≡ k → r ≡ flagged t x → x ≡ y → flagged t y ≡ testAt fs k v → r ≡ testAt fs i v
+arm-flagged fs t i k v x y r e f g h = rw e (f ∙ ap (flagged t) g ∙ h)
 
 beyond : (fs : List (ℕ → Bool)) (i v : ℕ) → length fs ≤ i → false ≡ testAt fs i v
 unfolding testAt
@@ -38,6 +38,34 @@ arm-none fs i v e h0 h1 h2 h3 h4 h5 h6 h7 h8 h9 =
 
 pub met-by : (fs : List (ℕ → Bool)) (i v : ℕ) (m r : Bool) → r ≡ (eqb v 0 || m) → m ≡ testAt fs i v → r ≡ valueMet fs i v
 met-by fs i v m r e em = rw (e, em)
+
+-- whether each of the first n values is met
+unfoldable pub metBelow : List (ℕ → Bool) → List ℕ → ℕ → Bool
+unfolding allBelow testAt
+metBelow fs vs n = allBelow (λ i. valueMet fs i (getD vs i 0)) n
+
+pub met-none : (fs : List (ℕ → Bool)) (vs : List ℕ) → metBelow fs vs 0 ≡ true
+unfolding metBelow
+met-none fs vs = refl
+
+-- One value more that is met; n is the test that ends the search.
+pub met-more : (fs : List (ℕ → Bool)) (vs : List ℕ) (i : ℕ) (m n : Bool) → n ≡ not m → m ≡ valueMet fs i (getD vs i 0) → n ≡ false → metBelow fs vs i ≡ true → metBelow fs vs (i + 1) ≡ true
+unfolding metBelow
+met-more fs vs i true n en em e a = rw (all-more (λ k. valueMet fs k (getD vs k 0)) i, a) (sym em)
+met-more fs vs i false n en em e a = absurd (false≢true (sym e ∙ en))
+
+-- A value that is not met.
+pub met-ended : (fs : List (ℕ → Bool)) (vs : List ℕ) (i : ℕ) (m n : Bool) → n ≡ not m → m ≡ valueMet fs i (getD vs i 0) → n ≡ true → i < 10 → false ≡ valuesMet fs vs
+unfolding valuesMet
+met-ended fs vs i true n en em e l = absurd (false≢true (sym en ∙ e))
+met-ended fs vs i false n en em e l =
+    cases (allBelow (λ k. valueMet fs k (getD vs k 0)) 10)
+    (λ h. absurd (false≢true (em ∙ all-at (λ k. valueMet fs k (getD vs k 0)) 10 h i l)))
+    (λ h. sym h)
+
+pub met-all : (fs : List (ℕ → Bool)) (vs : List ℕ) (i : ℕ) → metBelow fs vs i ≡ true → i ≡ 10 → true ≡ valuesMet fs vs
+unfolding metBelow valuesMet
+met-all fs vs i a e = sym (rw e at a)
 
 and-assoc : (a b d : Bool) → ((a && b) && d) ≡ (a && (b && d))
 and-assoc true b d = refl

@@ -21,6 +21,7 @@ use Rattle.places.specs.declared.Row.{Row}
 use Rattle.places.specs.declared.Period.{Period}
 use Rattle.rules.specs.Search.{noRule}
 use Rattle.rules.specs.declared.Judged.{Judged}
+use Rattle.judge.specs.Flags.{afterFlag}
 use Rattle.judge.specs.declared.Question.{Question}
 
 -- what a question asks, as the written meaning's
@@ -69,9 +70,12 @@ signedKey r = signKey (r .sequence) (r .sign)
 abbrev pub typedKey : Rule → ℕ
 typedKey r = typeKey (r .number) (r .sign)
 
--- the sizes of the tables
+-- the sizes of the tables; that of codes has four keys to an entry
 abbrev pub codeKeys : ℕ
 codeKeys = 40000
+
+abbrev pub codeEntries : ℕ
+codeEntries = 10000
 
 abbrev pub ruleKeys : ℕ
 ruleKeys = 10000
@@ -93,7 +97,7 @@ borneBy q p = eqb (p .number) (sought q (p .kind)) && covers (p .first) (p .last
 
 -- the table of codes after the period at place i
 abbrev pub markCode : List ℕ → Question → ℕ → List ℕ → List ℕ
-markCode b q i t = afterPlace (λ p. p .csd) (q .csd) periodKey (borneBy q) (λ p m. 1) (periodAt b i) t
+markCode b q i t = afterFlag (λ p. p .csd) (q .csd) periodKey (borneBy q) (periodAt b i) t
 
 unfoldable pub codesBorne : List ℕ → Question → ℕ → Bool
 codesBorne b q = keys (λ p. p .csd) (q .csd) (periodAt b) periodKey (borneBy q) codeKeys 1024

@@ -1,14 +1,17 @@
 // A question judged over the lent book in one pass over each table, by tables of numbers that are addressed by key, and one over the rules for each type that the
 // verdict names (document 01, 'How a question is judged'). A pass goes from each place of the depository to its next.
+ghost use Prim.Native.Nat.{_/_, _%_};
 ghost use mathlib.Core.Path.{_≡_};
 ghost use mathlib.Core.Bool.{_&&_, _||_, not, cond};
 ghost use lib.ListN.{set, getD};
 ghost use Rattle.tables.specs.Count.{lesser};
 ghost use Rattle.tables.specs.Keyed.{marked, Blank};
 ghost use Rattle.meaning.specs.Judging.{covers};
-ghost use Rattle.judge.specs.Stages.{codeKey, ruleKey, signKey, typeKey, codeKeys, ruleKeys, signKeys, typeKeys, sought, borneBy, markCode, codesBorne, tests, testAt, valueMet, valuesMet, rowMatches, markRow, rowsMatched, ruleMatches, ruleOfType, markRule, rulesMatched, markSign, signsMatched, typeApplies, nameType, typesNamed, judgedRule, noneListed, Listed, firstRule, decided, verdict, judgedBy};
+ghost use Rattle.judge.specs.Flags.{weight, flag, withFlag, flagged};
+ghost use Rattle.judge.specs.Stages.{codeKey, ruleKey, signKey, typeKey, codeEntries, ruleKeys, signKeys, typeKeys, sought, borneBy, markCode, codesBorne, tests, testAt, valueMet, valuesMet, rowMatches, markRow, rowsMatched, ruleMatches, ruleOfType, markRule, rulesMatched, markSign, signsMatched, typeApplies, nameType, typesNamed, judgedRule, noneListed, Listed, firstRule, decided, verdict, judgedBy};
 use meaning::Deciding;
 use meaning::Verdict;
+use owners::next_period;
 use owners::next_row;
 use owners::next_rule;
 use owners::next_type;
@@ -120,10 +123,10 @@ fn processing_key(processing: u8) -> usize
 
 // Tables without a mark, each in a function of its own, so that no proof shows its cells.
 
-fn no_codes() -> [u8; 40000]
-    ensures { λ r. ⌜ Blank codeKeys r ⌝ }
+fn no_codes() -> [u8; 10000]
+    ensures { λ r. ⌜ Blank codeEntries r ⌝ }
 {
-    [0; 40000]
+    [0; 10000]
 }
 
 fn no_rows() -> [u8; 10000]
@@ -182,6 +185,57 @@ fn store(t: &mut [u8], k: usize, on: bool, v: u8)
     }
 }
 
+// The table of codes has four flags to an entry, so that fewer bytes are cleared for each question: the flag of the key k is flag k % 4 of the
+// entry at k / 4. They work on the key, as a kind may be any byte in a damaged book.
+
+fn flag_weight(k: usize) -> u8
+    ensures { λ r. ⌜ r ≡ weight (k % 4) ⌝ }
+{
+    match k % 4 {
+        0 => 1,
+        1 => 2,
+        2 => 4,
+        _ => 8,
+    }
+}
+
+// Whether an entry has the flag of a key.
+fn has_flag(x: u8, k: usize) -> bool
+    ensures { λ r. ⌜ r ≡ flag (k % 4) x ⌝ }
+{
+    match k % 4 {
+        0 => x % 2 == 1,
+        1 => x / 2 % 2 == 1,
+        2 => x / 2 / 2 % 2 == 1,
+        _ => x / 2 / 2 / 2 % 2 == 1,
+    }
+}
+
+// An entry with the flag of a key.
+fn with_flag(x: u8, k: usize) -> u8
+    ensures { λ r. ⌜ r ≡ withFlag (k % 4) x ⌝ }
+{
+    if has_flag(x, k) {
+        x
+    } else {
+        x + flag_weight(k)
+    }
+}
+
+fn is_flagged(t: &[u8], k: usize) -> bool
+    ensures { λ r. ⌜ r ≡ flagged (now (t .entry)) k ⌝ }
+{
+    has_flag(look(t, k / 4), k)
+}
+
+// Stores the flag of a key, if asked to, and nothing past the end.
+fn store_flag(t: &mut [u8], k: usize, on: bool)
+    ensures { λ _. ⌜ now (t .exit) ≡ cond on (set (now (t .entry)) (k / 4) (withFlag (k % 4) (getD (now (t .entry)) (k / 4) 0))) (now (t .entry)) ⌝ }
+{
+    let entry = look(t, k / 4);
+    store(t, k / 4, on, with_flag(entry, k));
+}
+
 // 1. The codes that the question's party, account and security bear on the day.
 
 // The question's number of a kind: 1 party, 2 account, 3 security.
@@ -205,22 +259,28 @@ fn borne_by(q: Question, p: Period) -> bool
     )
 }
 
-// Marks the code of the period at a place, if it is borne.
+// Flags the code of the period at a place, if it is borne.
 fn mark_code(t: &mut [u8], b: &[u8], q: Question, i: u16)
     ensures { λ _. ⌜ now (t .exit) ≡ markCode (now (b .entry)) q i (now (t .entry)) ⌝ }
 {
     if places::period_csd(b, i) == q.csd {
         let p = places::period_at(b, i);
-        store(t, code_key(p.code, p.kind), borne_by(q, p), 1);
+        store_flag(t, code_key(p.code, p.kind), borne_by(q, p));
     }
 }
 
 fn codes_borne(t: &mut [u8], b: &[u8], q: Question)
-    requires { ⌜ Blank codeKeys (now t) ⌝ }
-    ensures { λ _. ⌜ marked (now (t .exit)) ≡ codesBorne (now (b .entry)) q ⌝ }
+    requires { ⌜ Blank codeEntries (now t) ⌝ }
+    ensures { λ _. ⌜ flagged (now (t .exit)) ≡ codesBorne (now (b .entry)) q ⌝ }
 {
-    for i in 0..Period::PLACES {
-        mark_code(t, b, q, i);
+    let mut i: u16 = 0;
+    while i < Period::PLACES {
+        let k = next_period(b, i, q.csd);
+        if k == Period::PLACES {
+            return;
+        }
+        mark_code(t, b, q, k);
+        i = k + 1;
     }
 }
 
@@ -228,7 +288,7 @@ fn codes_borne(t: &mut [u8], b: &[u8], q: Question)
 
 // Whether the question meets a value at a criterion.
 fn criterion_met(i: u8, v: u32, q: Question, codes: &[u8]) -> bool
-    ensures { λ r. ⌜ r ≡ testAt (tests q (marked (now (codes .entry)))) i v ⌝ }
+    ensures { λ r. ⌜ r ≡ testAt (tests q (flagged (now (codes .entry)))) i v ⌝ }
 {
     match i {
         0 => q.role == v,
@@ -237,9 +297,9 @@ fn criterion_met(i: u8, v: u32, q: Question, codes: &[u8]) -> bool
         3 => q.transaction == v,
         4 => q.security == v,
         5 => q.account == v,
-        6 => is_marked(codes, code_key(v, 1)),
-        7 => is_marked(codes, code_key(v, 2)),
-        8 => is_marked(codes, code_key(v, 3)),
+        6 => is_flagged(codes, code_key(v, 1)),
+        7 => is_flagged(codes, code_key(v, 2)),
+        8 => is_flagged(codes, code_key(v, 3)),
         9 => q.currency == v,
         _ => false,
     }
@@ -247,26 +307,27 @@ fn criterion_met(i: u8, v: u32, q: Question, codes: &[u8]) -> bool
 
 // Whether a value is empty or met.
 fn value_met(i: u8, v: u32, q: Question, codes: &[u8]) -> bool
-    ensures { λ r. ⌜ r ≡ valueMet (tests q (marked (now (codes .entry)))) i v ⌝ }
+    ensures { λ r. ⌜ r ≡ valueMet (tests q (flagged (now (codes .entry)))) i v ⌝ }
 {
     or(v == 0, criterion_met(i, v, q, codes))
 }
 
-// Whether each filled value is met.
+// Whether each filled value is met; the first that is not decides.
 fn values_met(values: [u32; 10], q: Question, codes: &[u8]) -> bool
-    ensures { λ r. ⌜ r ≡ valuesMet (tests q (marked (now (codes .entry)))) values ⌝ }
+    ensures { λ r. ⌜ r ≡ valuesMet (tests q (flagged (now (codes .entry)))) values ⌝ }
 {
-    let mut met = true;
     for i in 0..10 {
         let v = values[i as usize];
-        met = and(met, value_met(i, v, q, codes));
+        if no(value_met(i, v, q, codes)) {
+            return false;
+        }
     }
-    met
+    true
 }
 
 // A row without a filled value matches; a sound book has none.
 fn row_matches(q: Question, codes: &[u8], w: Row) -> bool
-    ensures { λ r. ⌜ r ≡ rowMatches q (marked (now (codes .entry))) w ⌝ }
+    ensures { λ r. ⌜ r ≡ rowMatches q (flagged (now (codes .entry))) w ⌝ }
 {
     let values = w.values;
     and(w.object == q.object, values_met(values, q, codes))
@@ -274,7 +335,7 @@ fn row_matches(q: Question, codes: &[u8], w: Row) -> bool
 
 // Marks the rule of the row at a place, if the row matches.
 fn mark_row(t: &mut [u8], b: &[u8], q: Question, codes: &[u8], i: u16)
-    ensures { λ _. ⌜ now (t .exit) ≡ markRow (now (b .entry)) q (marked (now (codes .entry))) i (now (t .entry)) ⌝ }
+    ensures { λ _. ⌜ now (t .exit) ≡ markRow (now (b .entry)) q (flagged (now (codes .entry))) i (now (t .entry)) ⌝ }
 {
     if places::row_csd(b, i) == q.csd {
         let w = places::row_at(b, i);
@@ -289,7 +350,7 @@ fn mark_row(t: &mut [u8], b: &[u8], q: Question, codes: &[u8], i: u16)
 
 fn rows_matched(t: &mut [u8], b: &[u8], q: Question, codes: &[u8])
     requires { ⌜ Blank ruleKeys (now t) ⌝ }
-    ensures { λ _. ⌜ marked (now (t .exit)) ≡ rowsMatched (now (b .entry)) q (marked (now (codes .entry))) ⌝ }
+    ensures { λ _. ⌜ marked (now (t .exit)) ≡ rowsMatched (now (b .entry)) q (flagged (now (codes .entry))) ⌝ }
 {
     let mut i: u16 = 0;
     while i < Row::PLACES {

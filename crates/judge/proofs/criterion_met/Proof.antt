@@ -1,7 +1,7 @@
 -- `judge::criterion_met` meets its contract. Assumes nothing.
 use borrow.Author.Needs.{needs}
 use Rattle.judge.specs.Stages.{testAt}
-use Rattle.judge.proofs.Rows.{arm, arm-marked, arm-none}
+use Rattle.judge.proofs.Rows.{arm, arm-flagged, arm-none}
 use Rattle.judge.proofs.criterion_met.Statement.{statement}
 use Rattle.judge.proofs.criterion_met.Tie as tie
 
@@ -22,8 +22,8 @@ criterion-met-spec =
     (λ c. search arm)
     (λ c. search arm)
     (λ c. search arm)
-    (λ c. search arm-marked)
-    (λ c. search arm-marked)
-    (λ c. search arm-marked)
+    (λ c. search arm-flagged)
+    (λ c. search arm-flagged)
+    (λ c. search arm-flagged)
     (λ c. search arm)
     (λ c. search arm-none))

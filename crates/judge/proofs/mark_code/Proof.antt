@@ -1,6 +1,6 @@
 -- `judge::mark_code` meets its contract. Assumes nothing.
 use borrow.Author.Needs.{needs}
-use Rattle.tables.proofs.Keying.{place-own, place-other}
+use Rattle.judge.proofs.Flagging.{flag-own, flag-other}
 use Rattle.judge.proofs.mark_code.Statement.{statement}
 use Rattle.judge.proofs.mark_code.Tie as tie
 
@@ -14,5 +14,5 @@ mark-code-spec =
     (λ c κs. search needs)
     (λ c κs. search needs)
     (λ c. search needs)
-    (λ c. search place-own)
-    (λ c. search place-other))
+    (λ c. search flag-own)
+    (λ c. search flag-other))

@@ -8,4 +8,4 @@ pub no-codes-spec : {M : Type 1} → statement M
 no-codes-spec =
     tie.close
     (tie.spec
-    (λ c. record { long = length-replicate {A = ℕ} 40000 0; each = λ k l. getD-replicate {A = ℕ} 40000 k 0 0 l }))
+    (λ c. record { long = length-replicate {A = ℕ} 10000 0; each = λ k l. getD-replicate {A = ℕ} 10000 k 0 0 l }))

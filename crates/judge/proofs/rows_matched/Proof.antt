@@ -3,11 +3,12 @@ use Prim.Native.Nat.{_-_, _≤_}
 use mathlib.Core.Path.{_≡_, refl}
 use native.Mathlib.Omega.{arith}
 use lib.ListN.{length}
-use Rattle.tables.specs.Keyed.{marked, Keyed}
+use Rattle.tables.specs.Keyed.{Keyed}
 use Rattle.tables.proofs.Keying.{keyed-none, keyed-marks}
 use Rattle.owners.specs.Next.{nextRow}
 use Rattle.owners.proofs.Passing.{next-within}
 use Rattle.places.specs.Layout.{rowAt}
+use Rattle.judge.specs.Flags.{flagged}
 use Rattle.judge.specs.Stages.{rowKey, ruleKeys, rowMatches, rowsMatched}
 use Rattle.judge.proofs.Passes.{pass-more, pass-end}
 use borrow.Author.Needs.{needs}
@@ -15,7 +16,7 @@ use Rattle.judge.proofs.rows_matched.Statement.{statement}
 use Rattle.judge.proofs.rows_matched.Tie as tie
 
 abbrev Inv-loop : tie.InvT-loop
-Inv-loop t₀ b q codes i₀ t i = (i ≤ 1024) × (length t ≡ length t₀) × Keyed ruleKeys (λ r. r .csd) (q .csd) (rowAt b) rowKey (rowMatches q (marked codes)) (λ r m. 1) t i
+Inv-loop t₀ b q codes i₀ t i = (i ≤ 1024) × (length t ≡ length t₀) × Keyed ruleKeys (λ r. r .csd) (q .csd) (rowAt b) rowKey (rowMatches q (flagged codes)) (λ r m. 1) t i
 
 abbrev μ-loop : tie.MeasureT-loop
 μ-loop t₀ b q codes i₀ t i = 1024 - i

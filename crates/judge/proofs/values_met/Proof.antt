@@ -1,36 +1,35 @@
 -- `judge::values_met` meets its contract. Assumes nothing.
 use Prim.Native.Nat.{_-_, _≤_}
 use mathlib.Core.Path.{_≡_}
-use lib.ListN.{getD}
+use mathlib.Core.Bool.{true}
 use native.Mathlib.Omega.{arith}
 use borrow.Author.Needs.{needs}
-use Rattle.tables.specs.Count.{allBelow}
-use Rattle.tables.specs.Keyed.{marked}
-use Rattle.tables.proofs.Counts.{all-none, all-more}
-use Rattle.judge.specs.Stages.{tests, valueMet, valuesMet}
+use Rattle.judge.specs.Flags.{flagged}
+use Rattle.judge.specs.Stages.{tests}
+use Rattle.judge.proofs.Rows.{metBelow, met-none, met-more, met-ended, met-all}
 use Rattle.judge.proofs.values_met.Statement.{statement}
 use Rattle.judge.proofs.values_met.Tie as tie
 
 abbrev Inv-loop : tie.InvT-loop
-Inv-loop q codes values met₀ i₀ met i = (i ≤ 10) × (met ≡ allBelow (λ k. valueMet (tests q (marked codes)) k (getD values k 0)) i)
+Inv-loop q codes values i₀ i = (i ≤ 10) × (metBelow (tests q (flagged codes)) values i ≡ true)
 
 abbrev μ-loop : tie.MeasureT-loop
-μ-loop q codes values met₀ i₀ met i = 10 - i
+μ-loop q codes values i₀ i = 10 - i
 
 pub values-met-spec : {M : Type 1} → statement M
-unfolding valuesMet
 values-met-spec =
     tie.close
     (tie.spec
     Inv-loop
     μ-loop
-    (λ c. (search needs, rw all-none))
+    (λ c. (search needs, search met-none))
     (λ c. search needs)
     (λ c. search needs)
     (λ c. search needs)
     (λ c κs. search needs)
     (λ c κs. search needs)
+    (λ c. search met-ended)
     (λ c. omega arith)
     (λ c. omega arith)
-    (λ c. (omega arith, rw all-more cc))
-    (λ c. let e : c .before .loop .i ≡ 10 = omega arith in rw e at (c .before .loop .inv .1)))
+    (λ c. (omega arith, search met-more))
+    (λ c. let e : c .before .loop .i ≡ 10 = omega arith in search met-all))
