@@ -71,8 +71,11 @@ pub flagged-by : (t : List ℕ) (k x : ℕ) (r : Bool) → r ≡ flag (k % 4) x 
 unfolding flagged
 flagged-by t k x r e f = e ∙ ap (flag (k % 4)) f
 
-pub stored-flag : (t t′ : List ℕ) (k x y : ℕ) (on : Bool) → t′ ≡ cond on (set t (k / 4) y) t → y ≡ withFlag (k % 4) x → x ≡ getD t (k / 4) 0 → t′ ≡ cond on (set t (k / 4) (withFlag (k % 4) (getD t (k / 4) 0))) t
-stored-flag t t′ k x y on et ey ex = et ∙ rw (ey, ex)
+pub stored-flag : (t t′ : List ℕ) (k x y : ℕ) (on : Bool) → t′ ≡ set t (k / 4) y → y ≡ withFlag (k % 4) x → x ≡ getD t (k / 4) 0 → on ≡ true → t′ ≡ cond on (set t (k / 4) (withFlag (k % 4) (getD t (k / 4) 0))) t
+stored-flag t t′ k x y on et ey ex eo = rw eo (et ∙ rw (ey, ex))
+
+pub kept-flags : (t u : List ℕ) (on : Bool) → on ≡ false → t ≡ cond on u t
+kept-flags t u on e = rw e
 
 -- What one place leaves: c is read first. If it is a, x is read; k is its key and v whether it is on.
 module _ {P : Type 0} (csd : P → ℕ) (a : ℕ) (key : P → ℕ) (on : P → Bool) where

@@ -232,8 +232,10 @@ fn is_flagged(t: &[u8], k: usize) -> bool
 fn store_flag(t: &mut [u8], k: usize, on: bool)
     ensures { λ _. ⌜ now (t .exit) ≡ cond on (set (now (t .entry)) (k / 4) (withFlag (k % 4) (getD (now (t .entry)) (k / 4) 0))) (now (t .entry)) ⌝ }
 {
-    let entry = look(t, k / 4);
-    store(t, k / 4, on, with_flag(entry, k));
+    if on {
+        let entry = look(t, k / 4);
+        store(t, k / 4, true, with_flag(entry, k));
+    }
 }
 
 // 1. The codes that the question's party, account and security bear on the day.

@@ -1,6 +1,6 @@
 -- `judge::store_flag` meets its contract. Assumes nothing.
 use borrow.Author.Needs.{needs}
-use Rattle.judge.proofs.Flagging.{stored-flag}
+use Rattle.judge.proofs.Flagging.{stored-flag, kept-flags}
 use Rattle.judge.proofs.store_flag.Statement.{statement}
 use Rattle.judge.proofs.store_flag.Tie as tie
 
@@ -12,4 +12,5 @@ store-flag-spec =
     (λ c κs. search needs)
     (λ c κs. search needs)
     (λ c. search needs)
-    (λ c. search stored-flag))
+    (λ c. search stored-flag)
+    (λ c. search kept-flags))
