@@ -1,5 +1,5 @@
--- What the functions find at a place: that it holds a record as asked, or none. Written by tools/loops.py.
-use Prim.Native.Nat.{ℕ}
+-- What the functions find at a place: that it holds a record as asked, or none; and what a count is when places of others are passed. Written by tools/loops.py.
+use Prim.Native.Nat.{ℕ, _+_, _≤_}
 use mathlib.Core.Path.{_≡_}
 use mathlib.Core.Bool.{Bool, false}
 use mathlib.Core.List.{List}
@@ -16,7 +16,12 @@ use Rattle.records.specs.declared.PeriodAsk.{PeriodAsk}
 use Rattle.records.specs.Said.{typeOf, ruleOf, rowOf, periodOf}
 use Rattle.records.specs.Asks.{typeMeets, ruleMeets, rowMeets, periodMeets}
 use Rattle.book.specs.Places.{typeHit, ruleHit, rowHit, periodHit}
+use Rattle.owners.specs.Next.{nextType, nextRule, nextRow, nextPeriod}
+use Rattle.book.specs.Lone.{typesOf, rulesOf, rowsOf, periodsOf}
+use Rattle.tables.specs.Count.{bit, countBelow, count}
+use Rattle.tables.proofs.Lone.{count-lone}
 use Rattle.book.proofs.Place.{hit, miss}
+use Rattle.book.proofs.Looking.{next-between, counted-next, counted-last}
 
 -- ---- types
 
@@ -28,6 +33,23 @@ pub type-miss : (b : List ℕ) (a k : ℕ) (q : TypeAsk) (c : ℕ) → c ≡ typ
 unfolding typeHit
 type-miss b a k q c e f = miss (λ x. x .csd) (λ x. typeMeets q (typeOf x)) a (typeAt b k) c e f
 
+pub type-between : (b : List ℕ) (a i k : ℕ) → k ≡ nextType b a i → i ≤ 128 → (i ≤ k) × (k ≤ 128)
+unfolding nextType
+type-between b a i k e l = next-between (λ x. x .csd) (typeAt b) 128 a i k e l
+
+module _ (b : List ℕ) (a : ℕ) (q : TypeAsk) (n i : ℕ) where
+  pub type-counted : (k d : ℕ) {t : Bool} → d ≡ bit t → t ≡ typeHit b a q k → k ≡ nextType b a i → i ≤ 128 → n ≡ countBelow (typeHit b a q) i → n + d ≡ countBelow (typeHit b a q) (k + 1)
+  unfolding typeHit nextType
+  type-counted k d {t} x y e l c = counted-next (λ x. x .csd) (typeAt b) 128 a i k e l (λ x. typeMeets q (typeOf x)) n c d t x y
+
+  pub type-none-left : (k : ℕ) → k ≡ 128 → k ≡ nextType b a i → i ≤ 128 → n ≡ countBelow (typeHit b a q) i → n ≡ count (typeMeets q) (typesOf a b)
+  unfolding typeHit nextType typesOf
+  type-none-left k x e l c = rw count-lone (counted-last (λ x. x .csd) (typeAt b) 128 a i k e l (λ x. typeMeets q (typeOf x)) n c x)
+
+  pub type-all : i ≡ 128 → n ≡ countBelow (typeHit b a q) i → n ≡ count (typeMeets q) (typesOf a b)
+  unfolding typeHit typesOf
+  type-all x c = rw count-lone (rw x at c)
+
 -- ---- rules
 
 pub rule-hit : (b : List ℕ) (a k : ℕ) (q : RuleAsk) (w : M.Row) (c : ℕ) (t : Rule) (r : Bool) → c ≡ ruleAt b k .csd → c ≡ a → t ≡ ruleAt b k → r ≡ ruleMeets q w (ruleOf t) → r ≡ ruleHit b a q w k
@@ -37,6 +59,23 @@ rule-hit b a k q w c t r e f g h = hit (λ x. x .csd) (λ x. ruleMeets q w (rule
 pub rule-miss : (b : List ℕ) (a k : ℕ) (q : RuleAsk) (w : M.Row) (c : ℕ) → c ≡ ruleAt b k .csd → (c ≡ a → ⊥) → false ≡ ruleHit b a q w k
 unfolding ruleHit
 rule-miss b a k q w c e f = miss (λ x. x .csd) (λ x. ruleMeets q w (ruleOf x)) a (ruleAt b k) c e f
+
+pub rule-between : (b : List ℕ) (a i k : ℕ) → k ≡ nextRule b a i → i ≤ 512 → (i ≤ k) × (k ≤ 512)
+unfolding nextRule
+rule-between b a i k e l = next-between (λ x. x .csd) (ruleAt b) 512 a i k e l
+
+module _ (b : List ℕ) (a : ℕ) (q : RuleAsk) (w : M.Row) (n i : ℕ) where
+  pub rule-counted : (k d : ℕ) {t : Bool} → d ≡ bit t → t ≡ ruleHit b a q w k → k ≡ nextRule b a i → i ≤ 512 → n ≡ countBelow (ruleHit b a q w) i → n + d ≡ countBelow (ruleHit b a q w) (k + 1)
+  unfolding ruleHit nextRule
+  rule-counted k d {t} x y e l c = counted-next (λ x. x .csd) (ruleAt b) 512 a i k e l (λ x. ruleMeets q w (ruleOf x)) n c d t x y
+
+  pub rule-none-left : (k : ℕ) → k ≡ 512 → k ≡ nextRule b a i → i ≤ 512 → n ≡ countBelow (ruleHit b a q w) i → n ≡ count (ruleMeets q w) (rulesOf a b)
+  unfolding ruleHit nextRule rulesOf
+  rule-none-left k x e l c = rw count-lone (counted-last (λ x. x .csd) (ruleAt b) 512 a i k e l (λ x. ruleMeets q w (ruleOf x)) n c x)
+
+  pub rule-all : i ≡ 512 → n ≡ countBelow (ruleHit b a q w) i → n ≡ count (ruleMeets q w) (rulesOf a b)
+  unfolding ruleHit rulesOf
+  rule-all x c = rw count-lone (rw x at c)
 
 -- ---- rows
 
@@ -48,6 +87,23 @@ pub row-miss : (b : List ℕ) (a k : ℕ) (q : RowAsk) (w : M.Row) (c : ℕ) →
 unfolding rowHit
 row-miss b a k q w c e f = miss (λ x. x .csd) (λ x. rowMeets q w (rowOf x)) a (rowAt b k) c e f
 
+pub row-between : (b : List ℕ) (a i k : ℕ) → k ≡ nextRow b a i → i ≤ 1024 → (i ≤ k) × (k ≤ 1024)
+unfolding nextRow
+row-between b a i k e l = next-between (λ x. x .csd) (rowAt b) 1024 a i k e l
+
+module _ (b : List ℕ) (a : ℕ) (q : RowAsk) (w : M.Row) (n i : ℕ) where
+  pub row-counted : (k d : ℕ) {t : Bool} → d ≡ bit t → t ≡ rowHit b a q w k → k ≡ nextRow b a i → i ≤ 1024 → n ≡ countBelow (rowHit b a q w) i → n + d ≡ countBelow (rowHit b a q w) (k + 1)
+  unfolding rowHit nextRow
+  row-counted k d {t} x y e l c = counted-next (λ x. x .csd) (rowAt b) 1024 a i k e l (λ x. rowMeets q w (rowOf x)) n c d t x y
+
+  pub row-none-left : (k : ℕ) → k ≡ 1024 → k ≡ nextRow b a i → i ≤ 1024 → n ≡ countBelow (rowHit b a q w) i → n ≡ count (rowMeets q w) (rowsOf a b)
+  unfolding rowHit nextRow rowsOf
+  row-none-left k x e l c = rw count-lone (counted-last (λ x. x .csd) (rowAt b) 1024 a i k e l (λ x. rowMeets q w (rowOf x)) n c x)
+
+  pub row-all : i ≡ 1024 → n ≡ countBelow (rowHit b a q w) i → n ≡ count (rowMeets q w) (rowsOf a b)
+  unfolding rowHit rowsOf
+  row-all x c = rw count-lone (rw x at c)
+
 -- ---- periods
 
 pub period-hit : (b : List ℕ) (a k : ℕ) (q : PeriodAsk) (c : ℕ) (t : Period) (r : Bool) → c ≡ periodAt b k .csd → c ≡ a → t ≡ periodAt b k → r ≡ periodMeets q (periodOf t) → r ≡ periodHit b a q k
@@ -57,3 +113,20 @@ period-hit b a k q c t r e f g h = hit (λ x. x .csd) (λ x. periodMeets q (peri
 pub period-miss : (b : List ℕ) (a k : ℕ) (q : PeriodAsk) (c : ℕ) → c ≡ periodAt b k .csd → (c ≡ a → ⊥) → false ≡ periodHit b a q k
 unfolding periodHit
 period-miss b a k q c e f = miss (λ x. x .csd) (λ x. periodMeets q (periodOf x)) a (periodAt b k) c e f
+
+pub period-between : (b : List ℕ) (a i k : ℕ) → k ≡ nextPeriod b a i → i ≤ 1024 → (i ≤ k) × (k ≤ 1024)
+unfolding nextPeriod
+period-between b a i k e l = next-between (λ x. x .csd) (periodAt b) 1024 a i k e l
+
+module _ (b : List ℕ) (a : ℕ) (q : PeriodAsk) (n i : ℕ) where
+  pub period-counted : (k d : ℕ) {t : Bool} → d ≡ bit t → t ≡ periodHit b a q k → k ≡ nextPeriod b a i → i ≤ 1024 → n ≡ countBelow (periodHit b a q) i → n + d ≡ countBelow (periodHit b a q) (k + 1)
+  unfolding periodHit nextPeriod
+  period-counted k d {t} x y e l c = counted-next (λ x. x .csd) (periodAt b) 1024 a i k e l (λ x. periodMeets q (periodOf x)) n c d t x y
+
+  pub period-none-left : (k : ℕ) → k ≡ 1024 → k ≡ nextPeriod b a i → i ≤ 1024 → n ≡ countBelow (periodHit b a q) i → n ≡ count (periodMeets q) (periodsOf a b)
+  unfolding periodHit nextPeriod periodsOf
+  period-none-left k x e l c = rw count-lone (counted-last (λ x. x .csd) (periodAt b) 1024 a i k e l (λ x. periodMeets q (periodOf x)) n c x)
+
+  pub period-all : i ≡ 1024 → n ≡ countBelow (periodHit b a q) i → n ≡ count (periodMeets q) (periodsOf a b)
+  unfolding periodHit periodsOf
+  period-all x c = rw count-lone (rw x at c)

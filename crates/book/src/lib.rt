@@ -9,6 +9,10 @@ ghost use Rattle.records.specs.Asks.{typeMeets, ruleMeets, rowMeets, periodMeet
 ghost use Rattle.book.specs.Lone.{typesOf, rulesOf, rowsOf, periodsOf};
 ghost use Rattle.book.specs.Places.{typeHit, ruleHit, rowHit, periodHit, typePlace, rulePlace, rowPlace, periodPlace};
 ghost use Rattle.book.specs.Emptied.{Emptied};
+use owners::next_period;
+use owners::next_row;
+use owners::next_rule;
+use owners::next_type;
 use places::Period;
 use places::RestrictionType;
 use places::Row;
@@ -27,7 +31,6 @@ use records::RuleAsk;
 use records::TypeAsk;
 use records::one_if;
 use records::period_meets;
-use records::pick;
 use records::row_meets;
 use records::rule_meets;
 use records::type_meets;
@@ -69,13 +72,19 @@ pub fn type_is(b: &[u8], i: u16, a: u8, q: TypeAsk) -> bool
     false
 }
 
-// How many types of depository a are as asked.
+// How many types of depository a are as asked. The places of others are passed.
 pub fn count_types(b: &[u8], a: u8, q: TypeAsk) -> u16
     ensures { λ r. ⌜ (r ≡ count (typeMeets q) (typesOf a (now (b .entry)))) × (r ≤ 128) ⌝ }
 {
     let mut n: u16 = 0;
-    for i in 0..RestrictionType::PLACES {
-        n += one_if(type_is(b, i, a, q));
+    let mut i: u16 = 0;
+    while i < RestrictionType::PLACES {
+        let k = next_type(b, i, a);
+        if k == RestrictionType::PLACES {
+            return n;
+        }
+        n += one_if(type_is(b, k, a, q));
+        i = k + 1;
     }
     n
 }
@@ -84,11 +93,14 @@ pub fn count_types(b: &[u8], a: u8, q: TypeAsk) -> u16
 pub fn find_type(b: &[u8], a: u8, q: TypeAsk) -> u16
     ensures { λ r. ⌜ r ≡ typePlace (now (b .entry)) a q ⌝ }
 {
-    let mut found = RestrictionType::PLACES;
-    for i in 0..RestrictionType::PLACES {
-        found = pick(type_is(b, i, a, q), i, found);
+    let mut i = RestrictionType::PLACES;
+    while 0 < i {
+        i -= 1;
+        if type_is(b, i, a, q) {
+            return i;
+        }
     }
-    found
+    RestrictionType::PLACES
 }
 
 // Whether place i holds a rule of depository a that is as asked. The csd byte is read before the record.
@@ -101,13 +113,19 @@ pub fn rule_is(b: &[u8], i: u16, a: u8, q: RuleAsk, w: Row) -> bool
     false
 }
 
-// How many rules of depository a are as asked.
+// How many rules of depository a are as asked. The places of others are passed.
 pub fn count_rules(b: &[u8], a: u8, q: RuleAsk, w: Row) -> u16
     ensures { λ r. ⌜ (r ≡ count (ruleMeets q (rowOf w)) (rulesOf a (now (b .entry)))) × (r ≤ 512) ⌝ }
 {
     let mut n: u16 = 0;
-    for i in 0..Rule::PLACES {
-        n += one_if(rule_is(b, i, a, q, w));
+    let mut i: u16 = 0;
+    while i < Rule::PLACES {
+        let k = next_rule(b, i, a);
+        if k == Rule::PLACES {
+            return n;
+        }
+        n += one_if(rule_is(b, k, a, q, w));
+        i = k + 1;
     }
     n
 }
@@ -116,11 +134,14 @@ pub fn count_rules(b: &[u8], a: u8, q: RuleAsk, w: Row) -> u16
 pub fn find_rule(b: &[u8], a: u8, q: RuleAsk, w: Row) -> u16
     ensures { λ r. ⌜ r ≡ rulePlace (now (b .entry)) a q (rowOf w) ⌝ }
 {
-    let mut found = Rule::PLACES;
-    for i in 0..Rule::PLACES {
-        found = pick(rule_is(b, i, a, q, w), i, found);
+    let mut i = Rule::PLACES;
+    while 0 < i {
+        i -= 1;
+        if rule_is(b, i, a, q, w) {
+            return i;
+        }
     }
-    found
+    Rule::PLACES
 }
 
 // Whether place i holds a row of depository a that is as asked. The csd byte is read before the record.
@@ -133,13 +154,19 @@ pub fn row_is(b: &[u8], i: u16, a: u8, q: RowAsk, w: Row) -> bool
     false
 }
 
-// How many rows of depository a are as asked.
+// How many rows of depository a are as asked. The places of others are passed.
 pub fn count_rows(b: &[u8], a: u8, q: RowAsk, w: Row) -> u16
     ensures { λ r. ⌜ (r ≡ count (rowMeets q (rowOf w)) (rowsOf a (now (b .entry)))) × (r ≤ 1024) ⌝ }
 {
     let mut n: u16 = 0;
-    for i in 0..Row::PLACES {
-        n += one_if(row_is(b, i, a, q, w));
+    let mut i: u16 = 0;
+    while i < Row::PLACES {
+        let k = next_row(b, i, a);
+        if k == Row::PLACES {
+            return n;
+        }
+        n += one_if(row_is(b, k, a, q, w));
+        i = k + 1;
     }
     n
 }
@@ -148,11 +175,14 @@ pub fn count_rows(b: &[u8], a: u8, q: RowAsk, w: Row) -> u16
 pub fn find_row(b: &[u8], a: u8, q: RowAsk, w: Row) -> u16
     ensures { λ r. ⌜ r ≡ rowPlace (now (b .entry)) a q (rowOf w) ⌝ }
 {
-    let mut found = Row::PLACES;
-    for i in 0..Row::PLACES {
-        found = pick(row_is(b, i, a, q, w), i, found);
+    let mut i = Row::PLACES;
+    while 0 < i {
+        i -= 1;
+        if row_is(b, i, a, q, w) {
+            return i;
+        }
     }
-    found
+    Row::PLACES
 }
 
 // Whether place i holds a period of depository a that is as asked. The csd byte is read before the record.
@@ -165,13 +195,19 @@ pub fn period_is(b: &[u8], i: u16, a: u8, q: PeriodAsk) -> bool
     false
 }
 
-// How many periods of depository a are as asked.
+// How many periods of depository a are as asked. The places of others are passed.
 pub fn count_periods(b: &[u8], a: u8, q: PeriodAsk) -> u16
     ensures { λ r. ⌜ (r ≡ count (periodMeets q) (periodsOf a (now (b .entry)))) × (r ≤ 1024) ⌝ }
 {
     let mut n: u16 = 0;
-    for i in 0..Period::PLACES {
-        n += one_if(period_is(b, i, a, q));
+    let mut i: u16 = 0;
+    while i < Period::PLACES {
+        let k = next_period(b, i, a);
+        if k == Period::PLACES {
+            return n;
+        }
+        n += one_if(period_is(b, k, a, q));
+        i = k + 1;
     }
     n
 }
@@ -180,9 +216,12 @@ pub fn count_periods(b: &[u8], a: u8, q: PeriodAsk) -> u16
 pub fn find_period(b: &[u8], a: u8, q: PeriodAsk) -> u16
     ensures { λ r. ⌜ r ≡ periodPlace (now (b .entry)) a q ⌝ }
 {
-    let mut found = Period::PLACES;
-    for i in 0..Period::PLACES {
-        found = pick(period_is(b, i, a, q), i, found);
+    let mut i = Period::PLACES;
+    while 0 < i {
+        i -= 1;
+        if period_is(b, i, a, q) {
+            return i;
+        }
     }
-    found
+    Period::PLACES
 }

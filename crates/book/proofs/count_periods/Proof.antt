@@ -1,9 +1,7 @@
 -- `book::count_periods` meets its contract. Assumes nothing.
 use Rattle.tables.specs.Count.{countBelow}
 use Rattle.tables.proofs.Counts.{count-none}
-use Rattle.tables.proofs.Lone.{count-lone}
-use Rattle.book.proofs.Looking.{counted-more}
-use Rattle.book.specs.Lone.{periodsOf}
+use Rattle.book.proofs.Right.{period-between, period-counted, period-none-left, period-all}
 use Rattle.book.specs.Places.{periodHit}
 use Prim.Native.Nat.{_≤_, _-_}
 use mathlib.Core.Path.{_≡_, sym}
@@ -19,7 +17,6 @@ abbrev μ-loop : tie.MeasureT-loop
 μ-loop b a q n₀ i₀ n i = 1024 - i
 
 pub count-periods-spec : {M : Type 1} → statement M
-unfolding periodsOf periodHit
 count-periods-spec =
     tie.close
     (tie.spec
@@ -27,9 +24,13 @@ count-periods-spec =
     μ-loop
     (λ c. (search needs, search needs, sym (count-none _)))
     (λ c κs. search needs)
+    (λ c. (search period-none-left, omega arith))
+    (λ c κs. search needs)
     (λ c κs. search needs)
     (λ c. omega arith)
-    (λ c. omega arith)
-    (λ c. omega arith)
-    (λ c. (omega arith, omega arith, search counted-more))
-    (λ c. let e : c .before .loop .i ≡ 1024 = omega arith in (rw count-lone (rw e at (c .before .loop .inv .2)), omega arith)))
+    (λ c. omega (arith, period-between _ _ _ _ (c .before .before .before .next-period .ensures) (c .before .before .before .before .before .loop .inv .0)))
+    (λ c. omega (arith, period-between _ _ _ _ (c .before .before .before .next-period .ensures) (c .before .before .before .before .before .loop .inv .0)))
+    (λ c.
+    let s = period-between _ _ _ _ (c .before .before .before .next-period .ensures) (c .before .before .before .before .before .loop .inv .0) in
+    (omega (arith, s), omega (arith, s), search period-counted))
+    (λ c. (period-all _ _ _ _ _ (omega arith) (c .before .loop .inv .2), omega arith)))

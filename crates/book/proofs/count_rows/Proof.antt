@@ -1,9 +1,7 @@
 -- `book::count_rows` meets its contract. Assumes nothing.
 use Rattle.tables.specs.Count.{countBelow}
 use Rattle.tables.proofs.Counts.{count-none}
-use Rattle.tables.proofs.Lone.{count-lone}
-use Rattle.book.proofs.Looking.{counted-more}
-use Rattle.book.specs.Lone.{rowsOf}
+use Rattle.book.proofs.Right.{row-between, row-counted, row-none-left, row-all}
 use Rattle.book.specs.Places.{rowHit}
 use Rattle.records.specs.Said.{rowOf}
 use Prim.Native.Nat.{_≤_, _-_}
@@ -20,7 +18,6 @@ abbrev μ-loop : tie.MeasureT-loop
 μ-loop b a q w n₀ i₀ n i = 1024 - i
 
 pub count-rows-spec : {M : Type 1} → statement M
-unfolding rowsOf rowHit
 count-rows-spec =
     tie.close
     (tie.spec
@@ -28,9 +25,13 @@ count-rows-spec =
     μ-loop
     (λ c. (search needs, search needs, sym (count-none _)))
     (λ c κs. search needs)
+    (λ c. (search row-none-left, omega arith))
+    (λ c κs. search needs)
     (λ c κs. search needs)
     (λ c. omega arith)
-    (λ c. omega arith)
-    (λ c. omega arith)
-    (λ c. (omega arith, omega arith, search counted-more))
-    (λ c. let e : c .before .loop .i ≡ 1024 = omega arith in (rw count-lone (rw e at (c .before .loop .inv .2)), omega arith)))
+    (λ c. omega (arith, row-between _ _ _ _ (c .before .before .before .next-row .ensures) (c .before .before .before .before .before .loop .inv .0)))
+    (λ c. omega (arith, row-between _ _ _ _ (c .before .before .before .next-row .ensures) (c .before .before .before .before .before .loop .inv .0)))
+    (λ c.
+    let s = row-between _ _ _ _ (c .before .before .before .next-row .ensures) (c .before .before .before .before .before .loop .inv .0) in
+    (omega (arith, s), omega (arith, s), search row-counted))
+    (λ c. (row-all _ _ _ _ _ _ (omega arith) (c .before .loop .inv .2), omega arith)))

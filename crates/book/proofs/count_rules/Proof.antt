@@ -1,9 +1,7 @@
 -- `book::count_rules` meets its contract. Assumes nothing.
 use Rattle.tables.specs.Count.{countBelow}
 use Rattle.tables.proofs.Counts.{count-none}
-use Rattle.tables.proofs.Lone.{count-lone}
-use Rattle.book.proofs.Looking.{counted-more}
-use Rattle.book.specs.Lone.{rulesOf}
+use Rattle.book.proofs.Right.{rule-between, rule-counted, rule-none-left, rule-all}
 use Rattle.book.specs.Places.{ruleHit}
 use Rattle.records.specs.Said.{rowOf}
 use Prim.Native.Nat.{_≤_, _-_}
@@ -20,7 +18,6 @@ abbrev μ-loop : tie.MeasureT-loop
 μ-loop b a q w n₀ i₀ n i = 512 - i
 
 pub count-rules-spec : {M : Type 1} → statement M
-unfolding rulesOf ruleHit
 count-rules-spec =
     tie.close
     (tie.spec
@@ -28,9 +25,13 @@ count-rules-spec =
     μ-loop
     (λ c. (search needs, search needs, sym (count-none _)))
     (λ c κs. search needs)
+    (λ c. (search rule-none-left, omega arith))
+    (λ c κs. search needs)
     (λ c κs. search needs)
     (λ c. omega arith)
-    (λ c. omega arith)
-    (λ c. omega arith)
-    (λ c. (omega arith, omega arith, search counted-more))
-    (λ c. let e : c .before .loop .i ≡ 512 = omega arith in (rw count-lone (rw e at (c .before .loop .inv .2)), omega arith)))
+    (λ c. omega (arith, rule-between _ _ _ _ (c .before .before .before .next-rule .ensures) (c .before .before .before .before .before .loop .inv .0)))
+    (λ c. omega (arith, rule-between _ _ _ _ (c .before .before .before .next-rule .ensures) (c .before .before .before .before .before .loop .inv .0)))
+    (λ c.
+    let s = rule-between _ _ _ _ (c .before .before .before .next-rule .ensures) (c .before .before .before .before .before .loop .inv .0) in
+    (omega (arith, s), omega (arith, s), search rule-counted))
+    (λ c. (rule-all _ _ _ _ _ _ (omega arith) (c .before .loop .inv .2), omega arith)))

@@ -1,9 +1,7 @@
 -- `book::count_types` meets its contract. Assumes nothing.
 use Rattle.tables.specs.Count.{countBelow}
 use Rattle.tables.proofs.Counts.{count-none}
-use Rattle.tables.proofs.Lone.{count-lone}
-use Rattle.book.proofs.Looking.{counted-more}
-use Rattle.book.specs.Lone.{typesOf}
+use Rattle.book.proofs.Right.{type-between, type-counted, type-none-left, type-all}
 use Rattle.book.specs.Places.{typeHit}
 use Prim.Native.Nat.{_≤_, _-_}
 use mathlib.Core.Path.{_≡_, sym}
@@ -19,7 +17,6 @@ abbrev μ-loop : tie.MeasureT-loop
 μ-loop b a q n₀ i₀ n i = 128 - i
 
 pub count-types-spec : {M : Type 1} → statement M
-unfolding typesOf typeHit
 count-types-spec =
     tie.close
     (tie.spec
@@ -27,9 +24,13 @@ count-types-spec =
     μ-loop
     (λ c. (search needs, search needs, sym (count-none _)))
     (λ c κs. search needs)
+    (λ c. (search type-none-left, omega arith))
+    (λ c κs. search needs)
     (λ c κs. search needs)
     (λ c. omega arith)
-    (λ c. omega arith)
-    (λ c. omega arith)
-    (λ c. (omega arith, omega arith, search counted-more))
-    (λ c. let e : c .before .loop .i ≡ 128 = omega arith in (rw count-lone (rw e at (c .before .loop .inv .2)), omega arith)))
+    (λ c. omega (arith, type-between _ _ _ _ (c .before .before .before .next-type .ensures) (c .before .before .before .before .before .loop .inv .0)))
+    (λ c. omega (arith, type-between _ _ _ _ (c .before .before .before .next-type .ensures) (c .before .before .before .before .before .loop .inv .0)))
+    (λ c.
+    let s = type-between _ _ _ _ (c .before .before .before .next-type .ensures) (c .before .before .before .before .before .loop .inv .0) in
+    (omega (arith, s), omega (arith, s), search type-counted))
+    (λ c. (type-all _ _ _ _ _ (omega arith) (c .before .loop .inv .2), omega arith)))

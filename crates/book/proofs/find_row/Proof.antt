@@ -1,21 +1,20 @@
 -- `book::find_row` meets its contract. Assumes nothing.
 use Rattle.tables.specs.Count.{findBelow}
-use Rattle.tables.proofs.Counts.{find-none}
-use Rattle.book.proofs.Looking.{found-more}
+use Rattle.book.proofs.Looking.{found-here, found-less, found-none}
 use Rattle.book.specs.Places.{rowHit, rowPlace}
 use Rattle.records.specs.Said.{rowOf}
-use Prim.Native.Nat.{_≤_, _-_}
-use mathlib.Core.Path.{_≡_, sym}
+use Prim.Native.Nat.{_≤_}
+use mathlib.Core.Path.{_≡_, refl}
 use native.Mathlib.Omega.{arith}
 use borrow.Author.Needs.{needs}
 use Rattle.book.proofs.find_row.Statement.{statement}
 use Rattle.book.proofs.find_row.Tie as tie
 
 abbrev Inv-loop : tie.InvT-loop
-Inv-loop b a q w found₀ i₀ found i = (i ≤ 1024) × (found ≡ findBelow 1024 (rowHit b a q (rowOf w)) i)
+Inv-loop b a q w i₀ i = (i ≤ 1024) × (findBelow 1024 (rowHit b a q (rowOf w)) 1024 ≡ findBelow 1024 (rowHit b a q (rowOf w)) i)
 
 abbrev μ-loop : tie.MeasureT-loop
-μ-loop b a q w found₀ i₀ found i = 1024 - i
+μ-loop b a q w i₀ i = i
 
 pub find-row-spec : {M : Type 1} → statement M
 unfolding rowPlace
@@ -24,10 +23,10 @@ find-row-spec =
     (tie.spec
     Inv-loop
     μ-loop
-    (λ c. (search needs, sym (find-none _ _)))
+    (λ c. (search needs, refl))
+    (λ c. search needs)
     (λ c κs. search needs)
-    (λ c κs. search needs)
+    (λ c. search found-here)
     (λ c. omega arith)
-    (λ c. omega arith)
-    (λ c. (omega arith, search found-more))
-    (λ c. let e : c .before .loop .i ≡ 1024 = omega arith in rw e at (c .before .loop .inv .1)))
+    (λ c. (omega arith, search found-less))
+    (λ c. found-none 1024 1024 _ _ (omega arith) (c .before .loop .inv .1)))
