@@ -7,15 +7,11 @@ use lib.Dec.{eqb}
 use Rattle.tables.specs.Count.{bit, countBelow, findBelow}
 use Rattle.tables.proofs.Counts.{count-more, find-none, find-more}
 use Rattle.owners.specs.Next.{next}
-use Rattle.owners.proofs.Finding.{next-low}
-use Rattle.owners.proofs.Passing.{next-most, count-next}
+use Rattle.owners.proofs.Passing.{count-next}
 
 -- ---- counted: k is the next place of depository a from place i on
 
 module _ {P : Type 0} (csd : P → ℕ) (at : ℕ → P) (places a i k : ℕ) (e : k ≡ next (λ j. eqb (csd (at j)) a) places i) (l : i ≤ places) where
-  pub next-between : (i ≤ k) × (k ≤ places)
-  next-between = (omega (arith, e, next-low (λ j. eqb (csd (at j)) a) places i l), next-most csd a at places i k e)
-
   module _ (f : P → Bool) (n : ℕ) (c : n ≡ countBelow (λ j. eqb (csd (at j)) a && f (at j)) i) where
     pub counted-next : (d : ℕ) (t : Bool) → d ≡ bit t → t ≡ (eqb (csd (at k)) a && f (at k)) → n + d ≡ countBelow (λ j. eqb (csd (at j)) a && f (at j)) (k + 1)
     counted-next d t x y = rw (count-more (λ j. eqb (csd (at j)) a && f (at j)) k, x, y, count-next csd a at places f i k n e l c)

@@ -21,7 +21,8 @@ use Rattle.book.specs.Lone.{typesOf, rulesOf, rowsOf, periodsOf}
 use Rattle.tables.specs.Count.{bit, countBelow, count}
 use Rattle.tables.proofs.Lone.{count-lone}
 use Rattle.book.proofs.Place.{hit, miss}
-use Rattle.book.proofs.Looking.{next-between, counted-next, counted-last}
+use Rattle.owners.proofs.Passing.{next-within}
+use Rattle.book.proofs.Looking.{counted-next, counted-last}
 
 -- ---- types
 
@@ -35,7 +36,7 @@ type-miss b a k q c e f = miss (λ x. x .csd) (λ x. typeMeets q (typeOf x)) a (
 
 pub type-between : (b : List ℕ) (a i k : ℕ) → k ≡ nextType b a i → i ≤ 128 → (i ≤ k) × (k ≤ 128)
 unfolding nextType
-type-between b a i k e l = next-between (λ x. x .csd) (typeAt b) 128 a i k e l
+type-between b a i k e l = next-within _ 128 i k e l
 
 module _ (b : List ℕ) (a : ℕ) (q : TypeAsk) (n i : ℕ) where
   pub type-counted : (k d : ℕ) {t : Bool} → d ≡ bit t → t ≡ typeHit b a q k → k ≡ nextType b a i → i ≤ 128 → n ≡ countBelow (typeHit b a q) i → n + d ≡ countBelow (typeHit b a q) (k + 1)
@@ -62,7 +63,7 @@ rule-miss b a k q w c e f = miss (λ x. x .csd) (λ x. ruleMeets q w (ruleOf x))
 
 pub rule-between : (b : List ℕ) (a i k : ℕ) → k ≡ nextRule b a i → i ≤ 512 → (i ≤ k) × (k ≤ 512)
 unfolding nextRule
-rule-between b a i k e l = next-between (λ x. x .csd) (ruleAt b) 512 a i k e l
+rule-between b a i k e l = next-within _ 512 i k e l
 
 module _ (b : List ℕ) (a : ℕ) (q : RuleAsk) (w : M.Row) (n i : ℕ) where
   pub rule-counted : (k d : ℕ) {t : Bool} → d ≡ bit t → t ≡ ruleHit b a q w k → k ≡ nextRule b a i → i ≤ 512 → n ≡ countBelow (ruleHit b a q w) i → n + d ≡ countBelow (ruleHit b a q w) (k + 1)
@@ -89,7 +90,7 @@ row-miss b a k q w c e f = miss (λ x. x .csd) (λ x. rowMeets q w (rowOf x)) a 
 
 pub row-between : (b : List ℕ) (a i k : ℕ) → k ≡ nextRow b a i → i ≤ 1024 → (i ≤ k) × (k ≤ 1024)
 unfolding nextRow
-row-between b a i k e l = next-between (λ x. x .csd) (rowAt b) 1024 a i k e l
+row-between b a i k e l = next-within _ 1024 i k e l
 
 module _ (b : List ℕ) (a : ℕ) (q : RowAsk) (w : M.Row) (n i : ℕ) where
   pub row-counted : (k d : ℕ) {t : Bool} → d ≡ bit t → t ≡ rowHit b a q w k → k ≡ nextRow b a i → i ≤ 1024 → n ≡ countBelow (rowHit b a q w) i → n + d ≡ countBelow (rowHit b a q w) (k + 1)
@@ -116,7 +117,7 @@ period-miss b a k q c e f = miss (λ x. x .csd) (λ x. periodMeets q (periodOf x
 
 pub period-between : (b : List ℕ) (a i k : ℕ) → k ≡ nextPeriod b a i → i ≤ 1024 → (i ≤ k) × (k ≤ 1024)
 unfolding nextPeriod
-period-between b a i k e l = next-between (λ x. x .csd) (periodAt b) 1024 a i k e l
+period-between b a i k e l = next-within _ 1024 i k e l
 
 module _ (b : List ℕ) (a : ℕ) (q : PeriodAsk) (n i : ℕ) where
   pub period-counted : (k d : ℕ) {t : Bool} → d ≡ bit t → t ≡ periodHit b a q k → k ≡ nextPeriod b a i → i ≤ 1024 → n ≡ countBelow (periodHit b a q) i → n + d ≡ countBelow (periodHit b a q) (k + 1)

@@ -1,6 +1,6 @@
 // Records by value: their ranges, whether a place is free, and what is asked of them.
 ghost use mathlib.Core.Path.{_≡_};
-ghost use mathlib.Core.Bool.{_||_, _&&_, not, cond};
+ghost use mathlib.Core.Bool.{_||_, _&&_, not};
 ghost use Prim.Native.Nat.{_+_, _≤_};
 ghost use lib.Dec.{eqb, ltb};
 ghost use Rattle.tables.specs.Count.{bit, allBelow};
@@ -75,12 +75,6 @@ pub fn one_if(a: bool) -> u16
     ensures { λ r. ⌜ (r ≡ bit a) × (r ≤ 1) ⌝ }
 {
     if a { 1 } else { 0 }
-}
-
-pub fn pick(a: bool, x: u16, y: u16) -> u16
-    ensures { λ r. ⌜ r ≡ cond a x y ⌝ }
-{
-    if a { x } else { y }
 }
 
 pub fn inside(low: u32, x: u32, high: u32) -> bool
