@@ -1,16 +1,22 @@
 -- The stages, one by what the stages before it found.
 use Prim.Native.Nat.{ℕ}
-use mathlib.Core.Path.{_≡_, ap, _∙_}
+use mathlib.Core.Path.{_≡_, refl, _∙_}
 use mathlib.Core.Bool.{Bool}
 use mathlib.Core.List.{List}
+use Rattle.tables.specs.Keyed.{marked}
+use Rattle.tables.proofs.Keying.{keyed-marks}
 use Rattle.meaning.specs.declared.Verdict.{Verdict}
-use Rattle.judge.specs.Flags.{flagged}
-use Rattle.judge.specs.Stages.{codesBorne, rowsMatched, rulesMatched, signsMatched, typesNamed, verdict, judgedBy}
-use Rattle.judge.specs.declared.Question.{Question}
+use Rattle.matching.specs.Rows.{codesBorne, rowsMatched, RowsMarked}
+use Rattle.judge.specs.Stages.{rulesMatched, signsMatched, typesNamed, verdict, judgedBy}
+use Rattle.matching.specs.declared.Question.{Question}
 
-pub by-codes : (b : List ℕ) (q : Question) (codes : List ℕ) {r : ℕ → Bool} → r ≡ rowsMatched b q (flagged codes) → flagged codes ≡ codesBorne b q → r ≡ rowsMatched b q (codesBorne b q)
-by-codes b q codes e f = e ∙ ap (rowsMatched b q) f
+by-rows : (b : List ℕ) (q : Question) (codes : ℕ → Bool) (rows : List ℕ) → RowsMarked b q codes rows → marked rows ≡ rowsMatched b q codes
+unfolding rowsMatched
+by-rows b q codes rows m = keyed-marks _ _ _ _ _ _ rows 1024 1024 m refl
 
-pub by-stages : (b : List ℕ) (q : Question) (rows signs : ℕ → Bool) (named : ℕ → ℕ) (r : Verdict) → r ≡ verdict (rulesMatched b q rows) named → named ≡ typesNamed b q signs → signs ≡ signsMatched b q rows → rows ≡ rowsMatched b q (codesBorne b q) → r ≡ judgedBy b q
+pub by-stages : (b : List ℕ) (q : Question) (rows : List ℕ) (signs : ℕ → Bool) (named : ℕ → ℕ) (r : Verdict) → r ≡ verdict (rulesMatched b q (marked rows)) named → named ≡ typesNamed b q signs → signs ≡ signsMatched b q (marked rows) → RowsMarked b q (codesBorne b q) rows → r ≡ judgedBy b q
 unfolding judgedBy
-by-stages b q rows signs named r e en es er = e ∙ rw (en, es, er)
+by-stages b q rows signs named r e en es er = e ∙ rw (en, es, rows-found)
+  where
+    rows-found : marked rows ≡ rowsMatched b q (codesBorne b q)
+    rows-found = by-rows b q (codesBorne b q) rows er

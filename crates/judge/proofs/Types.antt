@@ -9,8 +9,9 @@ use Rattle.meaning.specs.Judging.{covers, by}
 use Rattle.meaning.specs.declared.Deciding.{Deciding}
 use Rattle.places.specs.declared.RestrictionType.{RestrictionType}
 use Rattle.places.specs.declared.Rule.{Rule}
-use Rattle.judge.specs.Stages.{ruleKey, typeKey, ruleMatches, ruleOfType, firstRule, typeApplies, decided, verdict}
-use Rattle.judge.specs.declared.Question.{Question}
+use Rattle.matching.specs.Rows.{ruleKey}
+use Rattle.judge.specs.Stages.{typeKey, ruleMatches, ruleOfType, firstRule, typeApplies, decided, verdict}
+use Rattle.matching.specs.declared.Question.{Question}
 
 pub rule-by : (rows : ℕ → Bool) (q : Question) (r : Rule) (k : ℕ) (d m y x : Bool) → x ≡ (eqb (r .object) (q .object) && y) → y ≡ (d && m) → m ≡ rows k → k ≡ ruleKey (r .number) (r .sequence) → d ≡ covers (r .first) (r .last) (q .day) → x ≡ ruleMatches q rows r
 unfolding ruleMatches

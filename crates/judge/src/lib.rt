@@ -1,79 +1,34 @@
-// A question judged over the lent book in one pass over each table, by tables of numbers that are addressed by key, and one over the rules for each type that the
-// verdict names (document 01, 'How a question is judged'). A pass goes from each place of the depository to its next.
-ghost use Prim.Native.Nat.{_/_, _%_};
+// The verdict on a question over the lent book (document 01, 'How a question is judged'), by the marks of the rules of which a row matches (crate `matching`, stages 1 and 2): a pass over
+// the rules, one over the types, and one over the rules for each type that the verdict names. A pass goes from each place of the depository to its next.
 ghost use mathlib.Core.Path.{_≡_};
-ghost use mathlib.Core.Bool.{_&&_, _||_, not, cond};
-ghost use lib.ListN.{set, getD};
+ghost use mathlib.Core.Bool.{cond};
+ghost use lib.ListN.{getD};
 ghost use Rattle.tables.specs.Count.{lesser};
 ghost use Rattle.tables.specs.Keyed.{marked, Blank};
-ghost use Rattle.meaning.specs.Judging.{covers};
-ghost use Rattle.judge.specs.Flags.{weight, flag, withFlag, flagged};
-ghost use Rattle.judge.specs.Stages.{codeKey, ruleKey, signKey, typeKey, codeEntries, ruleKeys, signKeys, typeKeys, sought, borneBy, markCode, codesBorne, tests, testAt, valueMet, valuesMet, rowMatches, markRow, rowsMatched, ruleMatches, ruleOfType, markRule, rulesMatched, markSign, signsMatched, typeApplies, nameType, typesNamed, judgedRule, noneListed, Listed, firstRule, decided, verdict, judgedBy};
+ghost use Rattle.judge.specs.Stages.{signKey, typeKey, signKeys, typeKeys, ruleMatches, ruleOfType, markRule, rulesMatched, markSign, signsMatched, typeApplies, nameType, typesNamed, judgedRule, noneListed, Listed, firstRule, decided, verdict, judgedBy};
+use marks::is_marked;
+use marks::look;
+use marks::store;
+use matching::Question;
+use matching::covers;
+use matching::rule_key;
+use matching::rules_with_row;
 use meaning::Deciding;
 use meaning::Verdict;
-use owners::next_period;
-use owners::next_row;
 use owners::next_rule;
 use owners::next_type;
-use places::Period;
 use places::RestrictionType;
-use places::Row;
 use places::Rule;
+use records::and;
+use records::no;
+use records::or;
 use rules::First;
 use rules::Judged;
-
-// What is asked. Role is the instructing party's type; an empty field is 0.
-pub struct Question {
-    pub csd: u8,
-    pub day: u32,
-    pub object: u8,
-    pub role: u32,
-    pub movement: u32,
-    pub payment: u32,
-    pub transaction: u32,
-    pub currency: u32,
-    pub party: u32,
-    pub account: u32,
-    pub security: u32,
-}
-
-// Tests, without branches for whoever calls them.
-
-fn and(a: bool, b: bool) -> bool
-    ensures { λ r. ⌜ r ≡ (a && b) ⌝ }
-{
-    if a { b } else { false }
-}
-
-fn or(a: bool, b: bool) -> bool
-    ensures { λ r. ⌜ r ≡ (a || b) ⌝ }
-{
-    if a { true } else { b }
-}
-
-fn no(a: bool) -> bool
-    ensures { λ r. ⌜ r ≡ not a ⌝ }
-{
-    if a { false } else { true }
-}
 
 fn pick(a: bool, x: u8, y: u8) -> u8
     ensures { λ r. ⌜ r ≡ cond a x y ⌝ }
 {
     if a { x } else { y }
-}
-
-fn pick_number(a: bool, x: u32, y: u32) -> u32
-    ensures { λ r. ⌜ r ≡ cond a x y ⌝ }
-{
-    if a { x } else { y }
-}
-
-// First and last day both count.
-fn covers(first: u32, last: u32, day: u32) -> bool
-    ensures { λ r. ⌜ r ≡ covers first last day ⌝ }
-{
-    and(first <= day, day <= last)
 }
 
 // The smaller of two numbers, where 0 stands for none.
@@ -90,18 +45,6 @@ fn lesser(a: u8, b: u8) -> u8
 }
 
 // Tables of numbers, addressed by key.
-
-fn code_key(code: u32, kind: u8) -> usize
-    ensures { λ r. ⌜ r ≡ codeKey code kind ⌝ }
-{
-    code as usize * 4 + kind as usize
-}
-
-fn rule_key(number: u8, sequence: u8) -> usize
-    ensures { λ r. ⌜ r ≡ ruleKey number sequence ⌝ }
-{
-    number as usize * 100 + sequence as usize
-}
 
 fn sign_key(sequence: u16, sign: u8) -> usize
     ensures { λ r. ⌜ r ≡ signKey sequence sign ⌝ }
@@ -123,18 +66,6 @@ fn processing_key(processing: u8) -> usize
 
 // Tables without a mark, each in a function of its own, so that no proof shows its cells.
 
-fn no_codes() -> [u8; 10000]
-    ensures { λ r. ⌜ Blank codeEntries r ⌝ }
-{
-    [0; 10000]
-}
-
-fn no_rows() -> [u8; 10000]
-    ensures { λ r. ⌜ Blank ruleKeys r ⌝ }
-{
-    [0; 10000]
-}
-
 fn no_rules() -> [u8; 300]
     ensures { λ r. ⌜ Blank signKeys r ⌝ }
 {
@@ -154,225 +85,11 @@ fn no_types() -> [u8; 4]
     [0; 4]
 }
 
-// The entry at a key, 0 past the end.
-fn look(t: &[u8], k: usize) -> u8
-    ensures { λ r. ⌜ r ≡ getD (now (t .entry)) k 0 ⌝ }
-{
-    if k < t.len() { t[k] } else { 0 }
-}
-
-fn is_marked(t: &[u8], k: usize) -> bool
-    ensures { λ r. ⌜ r ≡ marked (now (t .entry)) k ⌝ }
-{
-    look(t, k) == 1
-}
-
 // The lower of a number and the entry at a key, where 0 stands for none.
 fn lower(t: &[u8], k: usize, number: u8) -> u8
     ensures { λ r. ⌜ r ≡ lesser number (getD (now (t .entry)) k 0) ⌝ }
 {
     lesser(number, look(t, k))
-}
-
-// Stores a number at a key, if asked to, and nothing past the end.
-fn store(t: &mut [u8], k: usize, on: bool, v: u8)
-    ensures { λ _. ⌜ now (t .exit) ≡ cond on (set (now (t .entry)) k v) (now (t .entry)) ⌝ }
-{
-    if on {
-        if k < t.len() {
-            t[k] = v;
-        }
-    }
-}
-
-// The table of codes has four flags to an entry, so that fewer bytes are cleared for each question: the flag of the key k is flag k % 4 of the
-// entry at k / 4. They work on the key, as a kind may be any byte in a damaged book.
-
-fn flag_weight(k: usize) -> u8
-    ensures { λ r. ⌜ r ≡ weight (k % 4) ⌝ }
-{
-    match k % 4 {
-        0 => 1,
-        1 => 2,
-        2 => 4,
-        _ => 8,
-    }
-}
-
-// Whether an entry has the flag of a key.
-fn has_flag(x: u8, k: usize) -> bool
-    ensures { λ r. ⌜ r ≡ flag (k % 4) x ⌝ }
-{
-    match k % 4 {
-        0 => x % 2 == 1,
-        1 => x / 2 % 2 == 1,
-        2 => x / 2 / 2 % 2 == 1,
-        _ => x / 2 / 2 / 2 % 2 == 1,
-    }
-}
-
-// An entry with the flag of a key.
-fn with_flag(x: u8, k: usize) -> u8
-    ensures { λ r. ⌜ r ≡ withFlag (k % 4) x ⌝ }
-{
-    if has_flag(x, k) {
-        x
-    } else {
-        x + flag_weight(k)
-    }
-}
-
-fn is_flagged(t: &[u8], k: usize) -> bool
-    ensures { λ r. ⌜ r ≡ flagged (now (t .entry)) k ⌝ }
-{
-    has_flag(look(t, k / 4), k)
-}
-
-// Stores the flag of a key, if asked to, and nothing past the end.
-fn store_flag(t: &mut [u8], k: usize, on: bool)
-    ensures { λ _. ⌜ now (t .exit) ≡ cond on (set (now (t .entry)) (k / 4) (withFlag (k % 4) (getD (now (t .entry)) (k / 4) 0))) (now (t .entry)) ⌝ }
-{
-    if on {
-        let entry = look(t, k / 4);
-        store(t, k / 4, true, with_flag(entry, k));
-    }
-}
-
-// 1. The codes that the question's party, account and security bear on the day.
-
-// The question's number of a kind: 1 party, 2 account, 3 security.
-fn sought(q: Question, kind: u8) -> u32
-    ensures { λ r. ⌜ r ≡ sought q kind ⌝ }
-{
-    pick_number(
-        kind == 1,
-        q.party,
-        pick_number(kind == 2, q.account, q.security),
-    )
-}
-
-// A period of the question's party, account or security that covers the day.
-fn borne_by(q: Question, p: Period) -> bool
-    ensures { λ r. ⌜ r ≡ borneBy q p ⌝ }
-{
-    and(
-        p.number == sought(q, p.kind),
-        covers(p.first, p.last, q.day),
-    )
-}
-
-// Flags the code of the period at a place, if it is borne.
-fn mark_code(t: &mut [u8], b: &[u8], q: Question, i: u16)
-    ensures { λ _. ⌜ now (t .exit) ≡ markCode (now (b .entry)) q i (now (t .entry)) ⌝ }
-{
-    if places::period_csd(b, i) == q.csd {
-        let p = places::period_at(b, i);
-        store_flag(t, code_key(p.code, p.kind), borne_by(q, p));
-    }
-}
-
-fn codes_borne(t: &mut [u8], b: &[u8], q: Question)
-    requires { ⌜ Blank codeEntries (now t) ⌝ }
-    ensures { λ _. ⌜ flagged (now (t .exit)) ≡ codesBorne (now (b .entry)) q ⌝ }
-{
-    let mut i: u16 = 0;
-    while i < Period::PLACES {
-        let k = next_period(b, i, q.csd);
-        if k == Period::PLACES {
-            return;
-        }
-        mark_code(t, b, q, k);
-        i = k + 1;
-    }
-}
-
-// 2. The rules of which a row matches. A row fills exactly its rule's criteria, so its filled values tell which are tested.
-
-// Whether the question meets a value at a criterion.
-fn criterion_met(i: u8, v: u32, q: Question, codes: &[u8]) -> bool
-    ensures { λ r. ⌜ r ≡ testAt (tests q (flagged (now (codes .entry)))) i v ⌝ }
-{
-    match i {
-        0 => q.role == v,
-        1 => q.movement == v,
-        2 => q.payment == v,
-        3 => q.transaction == v,
-        4 => q.security == v,
-        5 => q.account == v,
-        6 => is_flagged(codes, code_key(v, 1)),
-        7 => is_flagged(codes, code_key(v, 2)),
-        8 => is_flagged(codes, code_key(v, 3)),
-        9 => q.currency == v,
-        _ => false,
-    }
-}
-
-// Whether a value is empty or met.
-fn value_met(i: u8, v: u32, q: Question, codes: &[u8]) -> bool
-    ensures { λ r. ⌜ r ≡ valueMet (tests q (flagged (now (codes .entry)))) i v ⌝ }
-{
-    or(v == 0, criterion_met(i, v, q, codes))
-}
-
-// Whether each filled value is met; the first that is not decides.
-fn values_met(values: [u32; 10], q: Question, codes: &[u8]) -> bool
-    ensures { λ r. ⌜ r ≡ valuesMet (tests q (flagged (now (codes .entry)))) values ⌝ }
-{
-    for i in 0..10 {
-        let v = values[i as usize];
-        if no(value_met(i, v, q, codes)) {
-            return false;
-        }
-    }
-    true
-}
-
-// A row without a filled value matches; a sound book has none.
-fn row_matches(q: Question, codes: &[u8], w: Row) -> bool
-    ensures { λ r. ⌜ r ≡ rowMatches q (flagged (now (codes .entry))) w ⌝ }
-{
-    let values = w.values;
-    and(w.object == q.object, values_met(values, q, codes))
-}
-
-// Marks the rule of the row at a place, if the row matches.
-fn mark_row(t: &mut [u8], b: &[u8], q: Question, codes: &[u8], i: u16)
-    ensures { λ _. ⌜ now (t .exit) ≡ markRow (now (b .entry)) q (flagged (now (codes .entry))) i (now (t .entry)) ⌝ }
-{
-    if places::row_csd(b, i) == q.csd {
-        let w = places::row_at(b, i);
-        store(
-            t,
-            rule_key(w.number, w.sequence),
-            row_matches(q, codes, w),
-            1,
-        );
-    }
-}
-
-fn rows_matched(t: &mut [u8], b: &[u8], q: Question, codes: &[u8])
-    requires { ⌜ Blank ruleKeys (now t) ⌝ }
-    ensures { λ _. ⌜ marked (now (t .exit)) ≡ rowsMatched (now (b .entry)) q (flagged (now (codes .entry))) ⌝ }
-{
-    let mut i: u16 = 0;
-    while i < Row::PLACES {
-        let k = next_row(b, i, q.csd);
-        if k == Row::PLACES {
-            return;
-        }
-        mark_row(t, b, q, codes, k);
-        i = k + 1;
-    }
-}
-
-// The first two stages: the table of codes is needed for the rows alone.
-fn rows_judged(t: &mut [u8], b: &[u8], q: Question)
-    requires { ⌜ Blank ruleKeys (now t) ⌝ }
-    ensures { λ _. ⌜ marked (now (t .exit)) ≡ rowsMatched (now (b .entry)) q (codesBorne (now (b .entry)) q) ⌝ }
-{
-    let mut codes = no_codes();
-    codes_borne(&mut codes, b, q);
-    rows_matched(t, b, q, &codes);
 }
 
 // 3. The signs of which a rule of a type matches.
@@ -582,8 +299,7 @@ fn verdict(b: &[u8], q: Question, rows: &[u8], named: &[u8]) -> Verdict
 pub fn judge(book: &[u8], q: Question) -> Verdict
     ensures { λ r. ⌜ r ≡ judgedBy (now (book .entry)) q ⌝ }
 {
-    let mut rows = no_rows();
-    rows_judged(&mut rows, book, q);
+    let rows = rules_with_row(book, q);
     let signs = signs_matched(book, q, &rows);
     let named = types_named(book, q, &signs);
     verdict(book, q, &rows, &named)

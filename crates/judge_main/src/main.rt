@@ -1,9 +1,9 @@
 // Fills a book place by place and asks questions of it. Standard input is made by tools/judging.py: a line is a letter and numbers, T, R, M
 // or A with a place and the record to be stored there, or Q with a question. For each question a V line is written, as the desk prints it.
 ghost use mathlib.Core.Path.{_≡_};
-use judge::Question;
 use libc::STDIN_FILENO;
 use libc::STDOUT_FILENO;
+use matching::Question;
 use meaning::Deciding;
 use places::Period;
 use places::RestrictionType;

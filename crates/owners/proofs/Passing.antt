@@ -1,14 +1,15 @@
 -- What a pass over a table's places leaves as it is where it goes on at the depository's next place: a count of its places, and a table addressed by key.
-use Prim.Native.Nat.{ℕ, zero, suc, _+_, _≤_, _<_}
+use Prim.Native.Nat.{ℕ, zero, suc, _+_, _≤_}
 use mathlib.Core.Path.{_≡_, ap, sym, _∙_}
 use mathlib.Core.Bool.{Bool, false, _&&_}
 use mathlib.Core.List.{List}
 use native.Mathlib.Omega.{arith}
 use lib.Dec.{eqb}
-use Rattle.tables.specs.Count.{bit, countBelow}
+use Rattle.tables.specs.Count.{countBelow}
 use Rattle.tables.specs.Below.{anyBelow}
-use Rattle.tables.specs.Keyed.{hits, entry, Keyed}
+use Rattle.tables.specs.Keyed.{hits, entry, afterPlace, Keyed}
 use Rattle.tables.proofs.Counts.{cases-eq}
+use Rattle.tables.proofs.Keying.{keyed-more}
 use Rattle.owners.specs.Next.{next, Passed}
 use Rattle.owners.proofs.Finding.{next-low, next-high, next-passed}
 
@@ -56,3 +57,11 @@ module _ {P : Type 0} (csd : P → ℕ) (a : ℕ) (at : ℕ → P) (places : ℕ
       where
         still : (x j : ℕ) → eqb (csd (at j)) a ≡ false → entry csd a at key on step x (suc j) ≡ entry csd a at key on step x j
         still x j o = rw o
+
+-- One step of a pass: from the depository's next place to the one behind it, or to the table's end.
+module _ {P : Type 0} (size : ℕ) (csd : P → ℕ) (a : ℕ) (at : ℕ → P) (key : P → ℕ) (on : P → Bool) (step : P → ℕ → ℕ) (places : ℕ) where
+  pub pass-more : (t t′ : List ℕ) (i k : ℕ) → t′ ≡ afterPlace csd a key on step (at k) t → k ≡ next (λ j. eqb (csd (at j)) a) places i → i ≤ places → Keyed size csd a at key on step t i → Keyed size csd a at key on step t′ (k + 1)
+  pass-more t t′ i k e n l m = keyed-more size csd a at key on step t t′ k (keyed-next csd a at places key on size step t i k m n l) e
+
+  pub pass-end : (t : List ℕ) (i k : ℕ) → k ≡ next (λ j. eqb (csd (at j)) a) places i → i ≤ places → k ≡ places → Keyed size csd a at key on step t i → Keyed size csd a at key on step t places
+  pass-end t i k n l e m = rw e at (keyed-next csd a at places key on size step t i k m n l)

@@ -29,8 +29,9 @@ use Rattle.edits.specs.Asked.{byte, commandBy, orQuestion, commandIn}
 use Rattle.edits.specs.Edit.{editIn}
 use Rattle.edits.proofs.AskedRight.{asked-right}
 use Rattle.edits.proofs.Stay.{sound-lone, edit-left, edit-sound}
-use Rattle.judge.specs.Stages.{asked, judgedBy}
-use Rattle.judge.specs.declared.Question.{Question}
+use Rattle.matching.specs.Rows.{asked}
+use Rattle.judge.specs.Stages.{judgedBy}
+use Rattle.matching.specs.declared.Question.{Question}
 use Rattle.judge.proofs.Right.{judged-right}
 use Rattle.line.specs.declared.reading.Line.{Line}
 use Rattle.line.specs.Line.{lineOf}

@@ -14,7 +14,7 @@ use Rattle.book.specs.Sound.{sound}
 use Rattle.edits.specs.Asked.{byte, commandIn}
 use Rattle.edits.specs.Edit.{editIn}
 use Rattle.judge.specs.Stages.{judgedBy}
-use Rattle.judge.specs.declared.Question.{Question}
+use Rattle.matching.specs.declared.Question.{Question}
 use Rattle.line.specs.Line.{lineOf}
 use Rattle.line.specs.declared.reading.Line.{Line}
 use Rattle.precheck.specs.Promise.{Submitted}

@@ -7,10 +7,10 @@ ghost use Rattle.precheck.specs.Promise.{Submitted};
 ghost use Rattle.precheck.specs.Taking.{questionFrom, Took, Answers};
 use edits::edit;
 use edits::refusal;
-use judge::Question;
 use judge::judge;
 use line::Line;
 use line::read_line;
+use matching::Question;
 use meaning::Answer;
 use soundness::is_sound;
 

@@ -1,6 +1,6 @@
 -- `judge::judge` meets its contract. Assumes nothing.
-use Rattle.judge.proofs.Judging.{by-stages}
 use borrow.Author.Needs.{needs}
+use Rattle.judge.proofs.Judging.{by-stages}
 use Rattle.judge.proofs.judge.Statement.{statement}
 use Rattle.judge.proofs.judge.Tie as tie
 
@@ -8,8 +8,6 @@ pub judge-spec : {M : Type 1} → statement M
 judge-spec =
     tie.close
     (tie.spec
-    (λ c κs. search needs)
-    (λ c. search needs)
     (λ c κs. search needs)
     (λ c. search needs)
     (λ c κs. search needs)

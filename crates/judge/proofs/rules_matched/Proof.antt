@@ -9,7 +9,7 @@ use Rattle.owners.specs.Next.{nextRule}
 use Rattle.owners.proofs.Passing.{next-within}
 use Rattle.places.specs.Layout.{ruleAt}
 use Rattle.judge.specs.Stages.{signedKey, signKeys, ruleOfType, rulesMatched}
-use Rattle.judge.proofs.Passes.{pass-more, pass-end}
+use Rattle.owners.proofs.Passing.{pass-more, pass-end}
 use borrow.Author.Needs.{needs}
 use Rattle.judge.proofs.rules_matched.Statement.{statement}
 use Rattle.judge.proofs.rules_matched.Tie as tie

@@ -9,7 +9,7 @@ use Rattle.owners.specs.Next.{nextType}
 use Rattle.owners.proofs.Passing.{next-within}
 use Rattle.places.specs.Layout.{typeAt}
 use Rattle.judge.specs.Stages.{typeApplies, typesNamed}
-use Rattle.judge.proofs.Passes.{pass-more, pass-end}
+use Rattle.owners.proofs.Passing.{pass-more, pass-end}
 use borrow.Author.Needs.{needs}
 use Rattle.judge.proofs.types_named.Statement.{statement}
 use Rattle.judge.proofs.types_named.Tie as tie

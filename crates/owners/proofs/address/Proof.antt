@@ -2,7 +2,6 @@
 use mathlib.Core.Path.{refl}
 use native.Mathlib.Omega.{arith}
 use Rattle.owners.proofs.Finding.{area}
-use borrow.Author.Needs.{needs}
 use Rattle.owners.proofs.address.Statement.{statement}
 use Rattle.owners.proofs.address.Tie as tie
 

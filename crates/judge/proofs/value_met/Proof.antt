@@ -1,8 +1,0 @@
--- `judge::value_met` meets its contract. Assumes nothing.
-use borrow.Author.Needs.{needs}
-use Rattle.judge.proofs.Rows.{met-by}
-use Rattle.judge.proofs.value_met.Statement.{statement}
-use Rattle.judge.proofs.value_met.Tie as tie
-
-pub value-met-spec : {M : Type 1} → statement M
-value-met-spec = tie.close (tie.spec (λ c κs. search needs) (λ c κs. search needs) (λ c. search met-by))
