@@ -1,4 +1,4 @@
--- Laws of a table with four flags to an entry, for any table of records, key and test.
+-- Laws of marks, and of a table with four flags to an entry, for any table of records, key and test.
 use Prim.Native.Nat.{ℕ, zero, suc, _+_, _*_, _/_, _%_, _<_}
 use mathlib.Core.Path.{_≡_, refl, ap, sym, _∙_, fun-ext}
 use mathlib.Core.Bool.{Bool, true, false, _&&_, _||_, cond}
@@ -8,10 +8,15 @@ use lib.Dec.{eqb, ltb, eqb·suc-suc}
 use lib.ListN.{getD, set, List·getD-eq-default}
 use borrow.Author.Tests.{eq-eqb, ne-eqb, eqb-false, ltb-true, ltb-false}
 use Rattle.tables.specs.Below.{anyBelow}
-use Rattle.tables.specs.Keyed.{hits, entry, keys, Keyed}
+use Rattle.tables.specs.Keyed.{marked, hits, entry, keys, Keyed}
 use Rattle.tables.proofs.Counts.{cases, cases-eq}
 use Rattle.tables.proofs.Keying.{place-other}
 use Rattle.marks.specs.Flags.{weight, flag, withFlag, flagged, afterFlag}
+
+-- ---- marks
+
+pub marked-by : (t : List ℕ) (k x : ℕ) → x ≡ getD t k 0 → eqb x 1 ≡ marked t k
+marked-by t k x e = ap (λ y. eqb y 1) e
 
 -- ---- one entry
 

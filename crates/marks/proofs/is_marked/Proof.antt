@@ -1,5 +1,6 @@
 -- `marks::is_marked` meets its contract. Assumes nothing.
 use borrow.Author.Needs.{needs}
+use Rattle.marks.proofs.Flagging.{marked-by}
 use Rattle.marks.proofs.is_marked.Statement.{statement}
 use Rattle.marks.proofs.is_marked.Tie as tie
 
@@ -8,4 +9,4 @@ is-marked-spec =
     tie.close
     (tie.spec
     (λ c κs. search needs)
-    (λ c. cc))
+    (λ c. search marked-by))
