@@ -1,14 +1,13 @@
 // The lent book: the lone book of each depository, counting and finding in it, emptying.
 ghost use mathlib.Core.Path.{_≡_};
 ghost use Prim.Native.Nat.{_≤_};
-ghost use lib.ListN.{length};
-ghost use Rattle.tables.specs.Bytes.{zeros};
 ghost use Rattle.tables.specs.Count.{count};
 ghost use Rattle.records.specs.Said.{rowOf};
 ghost use Rattle.records.specs.Asks.{typeMeets, ruleMeets, rowMeets, periodMeets};
 ghost use Rattle.book.specs.Lone.{typesOf, rulesOf, rowsOf, periodsOf};
 ghost use Rattle.book.specs.Places.{typeHit, ruleHit, rowHit, periodHit, typePlace, rulePlace, rowPlace, periodPlace};
 ghost use Rattle.book.specs.Emptied.{Emptied};
+use marks::clear;
 use owners::next_period;
 use owners::next_row;
 use owners::next_rule;
@@ -39,15 +38,6 @@ use records::type_meets;
 const SIZE: usize = 51200;
 
 // ---- Emptying.
-
-fn clear(b: &mut [u8])
-    ensures { λ r. ⌜ now (b .exit) ≡ zeros (length (now (b .entry))) ⌝ }
-{
-    let n = b.len();
-    for i in 0..n {
-        b[i] = 0;
-    }
-}
 
 // Makes a book of no records from lent space of the exact size, and answers 0; other sizes get 1 and stay untouched.
 pub fn empty(book: &mut [u8]) -> u8

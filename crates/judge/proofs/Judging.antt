@@ -3,20 +3,21 @@ use Prim.Native.Nat.{ℕ}
 use mathlib.Core.Path.{_≡_, refl, _∙_}
 use mathlib.Core.Bool.{Bool}
 use mathlib.Core.List.{List}
+use lib.ListN.{length}
 use Rattle.tables.specs.Keyed.{marked}
 use Rattle.tables.proofs.Keying.{keyed-marks}
 use Rattle.meaning.specs.declared.Verdict.{Verdict}
-use Rattle.matching.specs.Rows.{codesBorne, rowsMatched, RowsMarked}
+use Rattle.matching.specs.Rows.{ruleKeys, codesBorne, rowsMatched, RowsMarked}
 use Rattle.judge.specs.Stages.{rulesMatched, signsMatched, typesNamed, verdict, judgedBy}
 use Rattle.matching.specs.declared.Question.{Question}
 
-by-rows : (b : List ℕ) (q : Question) (codes : ℕ → Bool) (rows : List ℕ) → RowsMarked b q codes rows → marked rows ≡ rowsMatched b q codes
+by-rows : (b : List ℕ) (q : Question) (codes : ℕ → Bool) (rows : List ℕ) → RowsMarked ruleKeys b q codes rows → marked rows ≡ rowsMatched b q codes
 unfolding rowsMatched
 by-rows b q codes rows m = keyed-marks _ _ _ _ _ _ rows 1024 1024 m refl
 
-pub by-stages : (b : List ℕ) (q : Question) (rows : List ℕ) (signs : ℕ → Bool) (named : ℕ → ℕ) (r : Verdict) → r ≡ verdict (rulesMatched b q (marked rows)) named → named ≡ typesNamed b q signs → signs ≡ signsMatched b q (marked rows) → RowsMarked b q (codesBorne b q) rows → r ≡ judgedBy b q
+pub by-stages : (b : List ℕ) (q : Question) (space rows : List ℕ) (signs : ℕ → Bool) (named : ℕ → ℕ) (r : Verdict) → r ≡ verdict (rulesMatched b q (marked rows)) named → named ≡ typesNamed b q signs → signs ≡ signsMatched b q (marked rows) → RowsMarked (length space) b q (codesBorne b q) rows → length space ≡ ruleKeys → r ≡ judgedBy b q
 unfolding judgedBy
-by-stages b q rows signs named r e en es er = e ∙ rw (en, es, rows-found)
+by-stages b q space rows signs named r e en es er el = e ∙ rw (en, es, rows-found)
   where
     rows-found : marked rows ≡ rowsMatched b q (codesBorne b q)
-    rows-found = by-rows b q (codesBorne b q) rows er
+    rows-found = by-rows b q (codesBorne b q) rows (rw el at er)

@@ -2,7 +2,8 @@
 // the rules, one over the types, and one over the rules for each type that the verdict names. A pass goes from each place of the depository to its next.
 ghost use mathlib.Core.Path.{_≡_};
 ghost use mathlib.Core.Bool.{cond};
-ghost use lib.ListN.{getD};
+ghost use lib.ListN.{length, getD};
+ghost use Rattle.matching.specs.Rows.{ruleKeys};
 ghost use Rattle.tables.specs.Count.{lesser};
 ghost use Rattle.tables.specs.Keyed.{marked, Blank};
 ghost use Rattle.judge.specs.Stages.{signKey, typeKey, signKeys, typeKeys, ruleMatches, ruleOfType, markRule, rulesMatched, markSign, signsMatched, typeApplies, nameType, typesNamed, judgedRule, noneListed, Listed, firstRule, decided, verdict, judgedBy};
@@ -11,8 +12,8 @@ use marks::look;
 use marks::store;
 use matching::Question;
 use matching::covers;
+use matching::mark_rules;
 use matching::rule_key;
-use matching::rules_with_row;
 use meaning::Deciding;
 use meaning::Verdict;
 use owners::next_rule;
@@ -65,6 +66,12 @@ fn processing_key(processing: u8) -> usize
 }
 
 // Tables without a mark, each in a function of its own, so that no proof shows its cells.
+
+fn row_space() -> [u8; 10000]
+    ensures { λ r. ⌜ length r ≡ ruleKeys ⌝ }
+{
+    [0; 10000]
+}
 
 fn no_rules() -> [u8; 300]
     ensures { λ r. ⌜ Blank signKeys r ⌝ }
@@ -299,7 +306,8 @@ fn verdict(b: &[u8], q: Question, rows: &[u8], named: &[u8]) -> Verdict
 pub fn judge(book: &[u8], q: Question) -> Verdict
     ensures { λ r. ⌜ r ≡ judgedBy (now (book .entry)) q ⌝ }
 {
-    let rows = rules_with_row(book, q);
+    let mut rows = row_space();
+    mark_rules(&mut rows, book, q);
     let signs = signs_matched(book, q, &rows);
     let named = types_named(book, q, &signs);
     verdict(book, q, &rows, &named)

@@ -2,9 +2,20 @@
 ghost use Prim.Native.Nat.{_/_, _%_};
 ghost use mathlib.Core.Path.{_≡_};
 ghost use mathlib.Core.Bool.{cond};
-ghost use lib.ListN.{set, getD};
+ghost use lib.ListN.{length, set, getD};
+ghost use Rattle.tables.specs.Bytes.{zeros};
 ghost use Rattle.tables.specs.Keyed.{marked};
 ghost use Rattle.marks.specs.Flags.{weight, flag, withFlag, flagged};
+
+// Makes every entry 0.
+pub fn clear(b: &mut [u8])
+    ensures { λ r. ⌜ now (b .exit) ≡ zeros (length (now (b .entry))) ⌝ }
+{
+    let n = b.len();
+    for i in 0..n {
+        b[i] = 0;
+    }
+}
 
 // The entry at a key, 0 past the end.
 pub fn look(t: &[u8], k: usize) -> u8

@@ -5,7 +5,9 @@ use mathlib.Core.Bool.{Bool, true, false, _&&_, _||_, not, and-true, false≢tru
 use mathlib.Core.List.{List, [], _∷_}
 use native.Mathlib.Omega.{arith}
 use lib.Dec.{eqb}
-use lib.ListN.{length, getD}
+use lib.ListN.{length, getD, length-replicate, getD-replicate}
+use Rattle.tables.specs.Bytes.{zeros}
+use Rattle.tables.specs.Keyed.{Blank}
 use borrow.Author.Tests.{ne-eqb}
 use Rattle.tables.specs.Count.{allBelow}
 use Rattle.tables.proofs.Counts.{cases, cases-eq, all-more, all-at}
@@ -94,5 +96,13 @@ row-met fs vs a b =
 
 -- ---- the rows, by the codes that are borne
 
-pub by-codes : (b : List ℕ) (q : Question) (codes : List ℕ) (t : List ℕ) → RowsMarked b q (flagged codes) t → flagged codes ≡ codesBorne b q → RowsMarked b q (codesBorne b q) t
-by-codes b q codes t m e = rw e at m
+pub by-codes : (b : List ℕ) (q : Question) (codes t₀ t₁ t : List ℕ) → RowsMarked (length t₁) b q (flagged codes) t → t₁ ≡ zeros (length t₀) → flagged codes ≡ codesBorne b q → RowsMarked (length t₀) b q (codesBorne b q) t
+unfolding zeros
+by-codes b q codes t₀ t₁ t m z e = rw (ap length z ∙ length-replicate {A = ℕ} (length t₀) 0) at (rw e at m)
+
+pub cleared : (t₀ t : List ℕ) → t ≡ zeros (length t₀) → Blank (length t) t
+unfolding zeros
+cleared t₀ t z = record {
+  long = refl;
+  each = λ k l. ap (λ x. getD x k 0) z ∙ getD-replicate (length t₀) k 0 0 (omega (arith, ap length z, length-replicate {A = ℕ} (length t₀) 0));
+}

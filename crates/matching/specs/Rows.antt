@@ -117,6 +117,6 @@ unfoldable pub rowsMatched : List ℕ → Question → (ℕ → Bool) → ℕ �
 rowsMatched b q codes =
     keys (λ w. w .csd) (q .csd) (rowAt b) rowKey (rowMatches q codes) ruleKeys 1024
 
--- the table of rules with a matching row, each entry as the rows leave it
-abbrev pub RowsMarked : List ℕ → Question → (ℕ → Bool) → List ℕ → Type 0
-RowsMarked b q codes t = Keyed ruleKeys (λ w. w .csd) (q .csd) (rowAt b) rowKey (rowMatches q codes) (λ w m. 1) t 1024
+-- a table of that size of the rules with a matching row, each entry as the rows leave it
+abbrev pub RowsMarked : ℕ → List ℕ → Question → (ℕ → Bool) → List ℕ → Type 0
+RowsMarked size b q codes t = Keyed size (λ w. w .csd) (q .csd) (rowAt b) rowKey (rowMatches q codes) (λ w m. 1) t 1024

@@ -1,10 +1,12 @@
 // Which rules have a row that matches a question (document 01, 'How a question is judged'): the codes that the question's party, account and security bear, then the rows.
 ghost use mathlib.Core.Path.{_≡_};
 ghost use mathlib.Core.Bool.{cond};
+ghost use lib.ListN.{length};
 ghost use Rattle.tables.specs.Keyed.{Blank};
 ghost use Rattle.meaning.specs.Judging.{covers};
 ghost use Rattle.marks.specs.Flags.{flagged};
-ghost use Rattle.matching.specs.Rows.{codeKey, ruleKey, codeEntries, ruleKeys, sought, borneBy, markCode, codesBorne, tests, testAt, valueMet, valuesMet, rowMatches, markRow, RowsMarked};
+ghost use Rattle.matching.specs.Rows.{codeKey, ruleKey, codeEntries, sought, borneBy, markCode, codesBorne, tests, testAt, valueMet, valuesMet, rowMatches, markRow, RowsMarked};
+use marks::clear;
 use marks::is_flagged;
 use marks::store;
 use marks::store_flag;
@@ -57,16 +59,10 @@ pub fn rule_key(number: u8, sequence: u8) -> usize
     number as usize * 100 + sequence as usize
 }
 
-// Tables without a mark, each in a function of its own, so that no proof shows its cells.
+// A table without a flag, in a function of its own, so that no proof shows its cells.
 
 fn no_codes() -> [u8; 10000]
     ensures { λ r. ⌜ Blank codeEntries r ⌝ }
-{
-    [0; 10000]
-}
-
-fn no_rows() -> [u8; 10000]
-    ensures { λ r. ⌜ Blank ruleKeys r ⌝ }
 {
     [0; 10000]
 }
@@ -184,8 +180,8 @@ fn mark_row(t: &mut [u8], b: &[u8], q: Question, codes: &[u8], i: u16)
 }
 
 fn rows_matched(t: &mut [u8], b: &[u8], q: Question, codes: &[u8])
-    requires { ⌜ Blank ruleKeys (now t) ⌝ }
-    ensures { λ _. ⌜ RowsMarked (now (b .entry)) q (flagged (now (codes .entry))) (now (t .exit)) ⌝ }
+    requires { ⌜ Blank (length (now t)) (now t) ⌝ }
+    ensures { λ _. ⌜ RowsMarked (length (now (t .entry))) (now (b .entry)) q (flagged (now (codes .entry))) (now (t .exit)) ⌝ }
 {
     let mut i: u16 = 0;
     while i < Row::PLACES {
@@ -198,13 +194,12 @@ fn rows_matched(t: &mut [u8], b: &[u8], q: Question, codes: &[u8])
     }
 }
 
-// The marks of the rules of which a row matches.
-pub fn rules_with_row(b: &[u8], q: Question) -> [u8; 10000]
-    ensures { λ r. ⌜ RowsMarked (now (b .entry)) q (codesBorne (now (b .entry)) q) r ⌝ }
+// Marks the rules of which a row matches in a lent table, whatever stood there.
+pub fn mark_rules(t: &mut [u8], b: &[u8], q: Question)
+    ensures { λ _. ⌜ RowsMarked (length (now (t .entry))) (now (b .entry)) q (codesBorne (now (b .entry)) q) (now (t .exit)) ⌝ }
 {
     let mut codes = no_codes();
     codes_borne(&mut codes, b, q);
-    let mut rows = no_rows();
-    rows_matched(&mut rows, b, q, &codes);
-    rows
+    clear(t);
+    rows_matched(t, b, q, &codes);
 }

@@ -9,14 +9,14 @@ use Rattle.owners.specs.Next.{nextRow}
 use Rattle.owners.proofs.Passing.{next-within}
 use Rattle.places.specs.Layout.{rowAt}
 use Rattle.marks.specs.Flags.{flagged}
-use Rattle.matching.specs.Rows.{rowKey, ruleKeys, rowMatches}
+use Rattle.matching.specs.Rows.{rowKey, rowMatches}
 use Rattle.owners.proofs.Passing.{pass-more, pass-end}
 use borrow.Author.Needs.{needs}
 use Rattle.matching.proofs.rows_matched.Statement.{statement}
 use Rattle.matching.proofs.rows_matched.Tie as tie
 
 abbrev Inv-loop : tie.InvT-loop
-Inv-loop t₀ b q codes i₀ t i = (i ≤ 1024) × (length t ≡ length t₀) × Keyed ruleKeys (λ r. r .csd) (q .csd) (rowAt b) rowKey (rowMatches q (flagged codes)) (λ r m. 1) t i
+Inv-loop t₀ b q codes i₀ t i = (i ≤ 1024) × (length t ≡ length t₀) × Keyed (length t₀) (λ r. r .csd) (q .csd) (rowAt b) rowKey (rowMatches q (flagged codes)) (λ r m. 1) t i
 
 abbrev μ-loop : tie.MeasureT-loop
 μ-loop t₀ b q codes i₀ t i = 1024 - i

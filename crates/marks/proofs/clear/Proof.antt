@@ -1,4 +1,4 @@
--- `book::clear` meets its contract. The invariant: the bytes passed are 0, the others as they were. Assumes nothing.
+-- `marks::clear` meets its contract. The invariant: the bytes passed are 0, the others as they were. Assumes nothing.
 use Rattle.tables.specs.Bytes.{zeros}
 use lib.ListN.{length, replicate, drop, length-set}
 use lib.Seq.{drop-length}
@@ -8,8 +8,8 @@ use Prim.Native.Nat.{_≤_, _-_}
 use mathlib.Core.Path.{_≡_}
 use native.Mathlib.Omega.{arith}
 use borrow.Author.Needs.{needs}
-use Rattle.book.proofs.clear.Statement.{statement}
-use Rattle.book.proofs.clear.Tie as tie
+use Rattle.marks.proofs.clear.Statement.{statement}
+use Rattle.marks.proofs.clear.Tie as tie
 
 abbrev Inv-loop : tie.InvT-loop
 Inv-loop b₀ n i₀ b i = (i ≤ length b₀) × (length b ≡ length b₀) × (b ≡ replicate i 0 ++ drop i b₀)
