@@ -1,11 +1,10 @@
 -- Criteria as the sum of their weights, and the values that a row fills (document 01, 'Lines' and 'Records'). Assumes nothing.
 use Prim.Native.Nat.{ℕ, _/_, _%_, _^_}
-use mathlib.Core.Bool.{Bool, true, _&&_}
+use mathlib.Core.Bool.{Bool}
 use mathlib.Core.List.{List}
 use lib.Dec.{eqb, ltb}
 use lib.ListN.{getD}
 use Rattle.tables.specs.Count.{bit, count}
-use Rattle.meaning.specs.Forms.{holds, optional, code, transactionForm, currencyForm, numberForm}
 
 -- criterion i, whose weight is 2 ^ i, belongs to the criteria
 unfoldable pub belongs : ℕ → ℕ → Bool
@@ -20,16 +19,3 @@ agrees criteria v i = eqb (bit (belongs criteria i)) (bit (ltb 0 (getD v i 0)))
 unfoldable pub filledCount : List ℕ → ℕ
 unfolding count
 filledCount v = count (ltb 0) v
-
--- values 6 to 9 by their forms, and values 3 to 9
-unfoldable pub codesFit : List ℕ → Bool
-codesFit v =
-    holds (optional code) (getD v 6 0)
-    && (holds (optional code) (getD v 7 0)
-    && (holds (optional code) (getD v 8 0) && (holds (optional currencyForm) (getD v 9 0) && true)))
-
-unfoldable pub namesFit : List ℕ → Bool
-unfolding codesFit
-namesFit v =
-    holds (optional transactionForm) (getD v 3 0)
-    && (holds (optional numberForm) (getD v 4 0) && (holds (optional numberForm) (getD v 5 0) && codesFit v))

@@ -1,19 +1,15 @@
-// Records by value: their ranges, whether a place is free, and what is asked of them.
+// What is asked of one record by value, and the tests that others use.
 ghost use mathlib.Core.Path.{_≡_};
 ghost use mathlib.Core.Bool.{_||_, _&&_, not};
 ghost use Prim.Native.Nat.{_+_, _≤_};
 ghost use lib.Dec.{eqb, ltb};
 ghost use Rattle.tables.specs.Count.{bit, allBelow};
-ghost use Rattle.meaning.specs.Fields.{within, isCapital};
-ghost use Rattle.meaning.specs.Forms.{holds, holdsAll, optional, upTo, day, code, transactionForm, currencyForm, isWord, tenValues};
-ghost use Rattle.meaning.specs.Keys.{sameNumbers, filled, isType, isRule, ofRule, isRow, isPeriod, clash};
-ghost use Rattle.meaning.specs.Refusals.{typeOutside, periodOutside, otherCriteria, outside};
-ghost use Rattle.meaning.specs.Sound.{daysFit, keyFits, typeFits, ruleFits, rowFits, periodFits, fillsRule};
+ghost use Rattle.meaning.specs.Fields.{within};
+ghost use Rattle.meaning.specs.Keys.{sameNumbers, filled, isRule};
+ghost use Rattle.meaning.specs.Refusals.{outside};
 ghost use Rattle.records.specs.Said.{typeOf, ruleOf, rowOf, periodOf};
-ghost use Rattle.records.specs.Criteria.{belongs, agrees, filledCount, codesFit, namesFit};
-ghost use Rattle.records.specs.Free.{typeZero, ruleZero, rowZero, periodZero};
+ghost use Rattle.records.specs.Criteria.{belongs, agrees, filledCount};
 ghost use Rattle.records.specs.Asks.{typeMeets, ruleMeets, rowMeets, periodMeets};
-use days::is_day;
 use places::Period;
 use places::RestrictionType;
 use places::Row;
@@ -89,132 +85,6 @@ pub fn small(low: u8, x: u8, high: u8) -> bool
     and(low <= x, x <= high)
 }
 
-// ---- Ranges (document 01, 'Lines').
-
-// First is not after last.
-fn days_fit(first: u32, last: u32) -> bool
-    ensures { λ r. ⌜ r ≡ daysFit first last ⌝ }
-{
-    and(is_day(first), and(is_day(last), first <= last))
-}
-
-fn key_fits(number: u8, object: u8) -> bool
-    ensures { λ r. ⌜ r ≡ keyFits number object ⌝ }
-{
-    and(small(1, number, 99), small(1, object, 2))
-}
-
-// Processing 3 is of object 1 only.
-pub fn type_fits(t: RestrictionType) -> bool
-    ensures { λ r. ⌜ r ≡ typeFits (typeOf t) ⌝ }
-{
-    let held = no(and(t.processing == 3, t.object == 2));
-    let days = days_fit(t.first, t.last);
-    and(
-        key_fits(t.number, t.object),
-        and(and(small(1, t.processing, 3), held), days),
-    )
-}
-
-pub fn rule_fits(t: Rule) -> bool
-    ensures { λ r. ⌜ r ≡ ruleFits (ruleOf t) ⌝ }
-{
-    let key = and(key_fits(t.number, t.object), small(1, t.sequence, 99));
-    let says = and(small(1, t.sign, 2), inside(1, t.criteria, 1023));
-    and(key, and(says, days_fit(t.first, t.last)))
-}
-
-fn capital(n: u32) -> bool
-    ensures { λ r. ⌜ r ≡ isCapital n ⌝ }
-{
-    inside(65, n, 90)
-}
-
-// The number of three capital letters, and of four.
-fn three_letters(n: u32) -> bool
-    ensures { λ r. ⌜ r ≡ isWord 3 n ⌝ }
-{
-    let rest = and(capital(n / 256 / 256 % 256), n / 256 / 256 / 256 == 0);
-    and(capital(n % 256), and(capital(n / 256 % 256), rest))
-}
-
-fn four_letters(n: u32) -> bool
-    ensures { λ r. ⌜ r ≡ isWord 4 n ⌝ }
-{
-    and(capital(n % 256), three_letters(n / 256))
-}
-
-// Attribute × 100 + value, each 1 to 99.
-pub fn is_code(n: u32) -> bool
-    ensures { λ r. ⌜ r ≡ holds code n ⌝ }
-{
-    and(inside(1, n / 100, 99), inside(1, n % 100, 99))
-}
-
-// A value of a row is 0 where it is empty.
-
-fn up_to_or(n: u32, most: u32) -> bool
-    ensures { λ r. ⌜ r ≡ holds (optional (upTo most)) n ⌝ }
-{
-    or(n == 0, inside(1, n, most))
-}
-
-fn code_or(n: u32) -> bool
-    ensures { λ r. ⌜ r ≡ holds (optional code) n ⌝ }
-{
-    or(n == 0, is_code(n))
-}
-
-fn transaction_or(n: u32) -> bool
-    ensures { λ r. ⌜ r ≡ holds (optional transactionForm) n ⌝ }
-{
-    or(n == 0, four_letters(n))
-}
-
-fn currency_or(n: u32) -> bool
-    ensures { λ r. ⌜ r ≡ holds (optional currencyForm) n ⌝ }
-{
-    or(n == 0, three_letters(n))
-}
-
-// The three codes and the currency; transaction, security and account before them; party type, movement and payment before these.
-
-fn codes_fit(v: [u32; 10]) -> bool
-    ensures { λ r. ⌜ r ≡ codesFit v ⌝ }
-{
-    let rest = and(code_or(v[8]), and(currency_or(v[9]), true));
-    and(code_or(v[6]), and(code_or(v[7]), rest))
-}
-
-fn names_fit(v: [u32; 10]) -> bool
-    ensures { λ r. ⌜ r ≡ namesFit v ⌝ }
-{
-    let rest = and(up_to_or(v[5], 999999), codes_fit(v));
-    and(transaction_or(v[3]), and(up_to_or(v[4], 999999), rest))
-}
-
-fn values_fit(v: [u32; 10]) -> bool
-    ensures { λ r. ⌜ r ≡ holdsAll tenValues v ⌝ }
-{
-    let rest = and(up_to_or(v[2], 2), names_fit(v));
-    and(up_to_or(v[0], 3), and(up_to_or(v[1], 2), rest))
-}
-
-pub fn row_fits(t: Row) -> bool
-    ensures { λ r. ⌜ r ≡ rowFits (rowOf t) ⌝ }
-{
-    let v = t.values;
-    let rule = and(key_fits(t.number, t.object), small(1, t.sequence, 99));
-    and(rule, values_fit(v))
-}
-
-pub fn period_fits(t: Period) -> bool
-    ensures { λ r. ⌜ r ≡ periodFits (periodOf t) ⌝ }
-{
-    let of = and(small(1, t.kind, 3), inside(1, t.number, 999999));
-    and(of, and(is_code(t.code), days_fit(t.first, t.last)))
-}
-
 // ---- The criteria that a row fills (document 01, 'Records').
 
 // Criterion i belongs to the criteria.
@@ -263,41 +133,6 @@ pub fn fills(criteria: u32, v: [u32; 10]) -> bool
         return false;
     }
     and(criteria < 1024, all_agree(criteria, v))
-}
-
-// ---- Free places.
-
-pub fn type_zero(t: RestrictionType) -> bool
-    ensures { λ r. ⌜ r ≡ typeZero t ⌝ }
-{
-    let days = and(t.first == 0, and(t.last == 0, true));
-    let rest = and(t.object == 0, and(t.processing == 0, days));
-    and(t.csd == 0, and(t.number == 0, rest))
-}
-
-pub fn rule_zero(t: Rule) -> bool
-    ensures { λ r. ⌜ r ≡ ruleZero t ⌝ }
-{
-    let days = and(t.first == 0, and(t.last == 0, true));
-    let says = and(t.sign == 0, and(t.criteria == 0, days));
-    let rest = and(t.object == 0, and(t.sequence == 0, says));
-    and(t.csd == 0, and(t.number == 0, rest))
-}
-
-pub fn row_zero(t: Row) -> bool
-    ensures { λ r. ⌜ r ≡ rowZero t ⌝ }
-{
-    let v = t.values;
-    let rest = and(t.sequence == 0, filled_count(v) == 0);
-    and(t.csd == 0, and(t.number == 0, and(t.object == 0, rest)))
-}
-
-pub fn period_zero(t: Period) -> bool
-    ensures { λ r. ⌜ r ≡ periodZero t ⌝ }
-{
-    let days = and(t.first == 0, and(t.last == 0, true));
-    let rest = and(t.number == 0, and(t.code == 0, days));
-    and(t.csd == 0, and(t.kind == 0, rest))
 }
 
 // ---- Whether a record is as asked (document 01, 'Records').

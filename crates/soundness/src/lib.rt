@@ -35,20 +35,20 @@ use places::period_at;
 use places::row_at;
 use places::rule_at;
 use places::type_at;
+use ranges::period_fits;
+use ranges::period_zero;
+use ranges::row_fits;
+use ranges::row_zero;
+use ranges::rule_fits;
+use ranges::rule_zero;
+use ranges::type_fits;
+use ranges::type_zero;
 use records::PeriodAsk;
 use records::RowAsk;
 use records::RuleAsk;
 use records::TypeAsk;
 use records::and;
 use records::no;
-use records::period_fits;
-use records::period_zero;
-use records::row_fits;
-use records::row_zero;
-use records::rule_fits;
-use records::rule_zero;
-use records::type_fits;
-use records::type_zero;
 
 // The book's exact size (docs/LAYOUT.md).
 const SIZE: usize = 51200;

@@ -1,0 +1,14 @@
+-- `ranges::code_or` meets its contract. Assumes nothing.
+use Rattle.meaning.specs.Forms.{holds}
+use borrow.Author.Needs.{needs}
+use Rattle.ranges.proofs.code_or.Statement.{statement}
+use Rattle.ranges.proofs.code_or.Tie as tie
+
+pub code-or-spec : {M : Type 1} → statement M
+unfolding holds
+code-or-spec =
+    tie.close
+    (tie.spec
+    (λ c κs. search needs)
+    (λ c κs. search needs)
+    (λ c. cc))

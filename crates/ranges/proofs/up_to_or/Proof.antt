@@ -1,0 +1,14 @@
+-- `ranges::up_to_or` meets its contract. Assumes nothing.
+use Rattle.meaning.specs.Forms.{holds}
+use borrow.Author.Needs.{needs}
+use Rattle.ranges.proofs.up_to_or.Statement.{statement}
+use Rattle.ranges.proofs.up_to_or.Tie as tie
+
+pub up-to-or-spec : {M : Type 1} → statement M
+unfolding holds
+up-to-or-spec =
+    tie.close
+    (tie.spec
+    (λ c κs. search needs)
+    (λ c κs. search needs)
+    (λ c. cc))
