@@ -1,4 +1,4 @@
--- `edits::refuse_add_row` meets its contract. Assumes nothing.
+-- `edits::refuse_add_row` meets its contract; facts are named, so that a wrong one is refused for certain. Assumes nothing.
 use Rattle.edits.proofs.Refuse.{refused-add-row}
 use borrow.Author.Needs.{needs}
 use Rattle.edits.proofs.refuse_add_row.Statement.{statement}
@@ -17,4 +17,16 @@ refuse-add-row-spec =
     (λ c κs. search needs)
     (λ c κs. search needs)
     (λ c κs. search needs)
-    (λ c. search refused-add-row))
+    (λ c.
+    let late = c .before .before .before in
+    let asked = late .before .before .before in
+    refused-add-row _ 0 _ _ _ _ _ _ _ _ _ _
+    (c .when4 .ensures)
+    (c .before .when3 .ensures)
+    (c .before .before .no .ensures)
+    (late .when2 .ensures)
+    (late .before .when .ensures)
+    (late .before .before .full-rows .ensures)
+    (asked .has-rule2 .ensures)
+    (asked .before .has-row .ensures)
+    (asked .before .before .has-rule .ensures)))

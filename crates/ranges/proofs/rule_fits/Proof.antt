@@ -1,4 +1,4 @@
--- `ranges::rule_fits` meets its contract. Assumes nothing.
+-- `ranges::rule_fits` meets its contract; facts are named, so that a wrong one is refused for certain. Assumes nothing.
 use Rattle.ranges.proofs.Returns.{rule-said}
 use borrow.Author.Needs.{needs}
 use Rattle.ranges.proofs.rule_fits.Statement.{statement}
@@ -17,4 +17,16 @@ rule-fits-spec =
     (λ c κs. search needs)
     (λ c κs. search needs)
     (λ c κs. search needs)
-    (λ c. search rule-said))
+    (λ c.
+    let says = c .before .before .before in
+    let key = says .before .before .before in
+    rule-said _
+    (c .and4 .ensures)
+    (c .before .and3 .ensures)
+    (c .before .before .days-fit .ensures)
+    (says .and2 .ensures)
+    (says .before .inside .ensures)
+    (says .before .before .small2 .ensures)
+    (key .and .ensures)
+    (key .before .small .ensures)
+    (key .before .before .key-fits .ensures)))
