@@ -5,13 +5,14 @@ use mathlib.Core.Bool.{Bool, true, _&&_, not}
 use lib.Dec.{eqb, leb}
 use Rattle.tables.specs.Count.{every}
 use Rattle.meaning.specs.Fields.{within}
-use Rattle.meaning.specs.Forms.{isDay, holds}
-use Rattle.meaning.specs.Sound.{daysFit, keyFits, typeFits, ruleFits}
+use Rattle.meaning.specs.Forms.{isDay, code, holds, holdsAll, tenValues}
+use Rattle.meaning.specs.Sound.{daysFit, keyFits, typeFits, ruleFits, rowFits, periodFits}
 use Rattle.places.specs.declared.RestrictionType.{RestrictionType}
 use Rattle.places.specs.declared.Rule.{Rule}
+use Rattle.places.specs.declared.Row.{Row}
 use Rattle.places.specs.declared.Period.{Period}
-use Rattle.records.specs.Said.{typeOf, ruleOf}
-use Rattle.records.specs.Free.{allZero, periodZero}
+use Rattle.records.specs.Said.{typeOf, ruleOf, rowOf, periodOf}
+use Rattle.records.specs.Free.{allZero, typeZero, ruleZero, periodZero}
 
 pub days-said : (first last : ℕ) {r d e f : Bool} → r ≡ (d && e) → e ≡ (f && leb first last) → f ≡ isDay last → d ≡ isDay first → r ≡ daysFit first last
 unfolding daysFit holds
@@ -26,6 +27,24 @@ pub rule-said : (t : Rule) {r key x says d s c k q : Bool} → r ≡ (key && x) 
     → key ≡ (k && q) → q ≡ within 1 99 (t .sequence) → k ≡ keyFits (t .number) (t .object) → r ≡ ruleFits (ruleOf t)
 unfolding ruleFits ruleOf holds
 rule-said t a b c d e f g h i = rw (a, b, c, d, e, f, g, h, i)
+
+pub row-said : (t : Row) {r rule v q k : Bool} → r ≡ (rule && v) → v ≡ holdsAll tenValues (t .values) → rule ≡ (k && q) → q ≡ within 1 99 (t .sequence) → k ≡ keyFits (t .number) (t .object) → r ≡ rowFits (rowOf t)
+unfolding rowFits rowOf holds
+row-said t a b c d e = rw (a, b, c, d, e)
+
+pub period-said : (t : Period) {r of x d c n k : Bool} → r ≡ (of && x) → x ≡ (c && d) → d ≡ daysFit (t .first) (t .last) → c ≡ holds code (t .code) → of ≡ (k && n) → n ≡ within 1 999999 (t .number) → k ≡ within 1 3 (t .kind) → r ≡ periodFits (periodOf t)
+unfolding periodFits periodOf holds
+period-said t a b c d e f g = rw (a, b, c, d, e, f, g)
+
+pub type-free : (t : RestrictionType) {r n o p f l : Bool} → r ≡ (eqb (t .csd) 0 && n) → n ≡ (eqb (t .number) 0 && o) → o ≡ (eqb (t .object) 0 && p) → p ≡ (eqb (t .processing) 0 && f)
+    → f ≡ (eqb (t .first) 0 && l) → l ≡ (eqb (t .last) 0 && true) → r ≡ typeZero t
+unfolding typeZero allZero every
+type-free t a b c d e f = rw (a, b, c, d, e, f)
+
+pub rule-free : (t : Rule) {r n o q s c f l : Bool} → r ≡ (eqb (t .csd) 0 && n) → n ≡ (eqb (t .number) 0 && o) → o ≡ (eqb (t .object) 0 && q) → q ≡ (eqb (t .sequence) 0 && s)
+    → s ≡ (eqb (t .sign) 0 && c) → c ≡ (eqb (t .criteria) 0 && f) → f ≡ (eqb (t .first) 0 && l) → l ≡ (eqb (t .last) 0 && true) → r ≡ ruleZero t
+unfolding ruleZero allZero every
+rule-free t a b c d e f g h = rw (a, b, c, d, e, f, g, h)
 
 pub period-free : (t : Period) {r k n c f l : Bool} → r ≡ (eqb (t .csd) 0 && k) → k ≡ (eqb (t .kind) 0 && n) → n ≡ (eqb (t .number) 0 && c) → c ≡ (eqb (t .code) 0 && f)
     → f ≡ (eqb (t .first) 0 && l) → l ≡ (eqb (t .last) 0 && true) → r ≡ periodZero t

@@ -1,13 +1,10 @@
--- `ranges::row_fits` meets its contract. Assumes nothing.
-use Rattle.meaning.specs.Sound.{rowFits}
-use Rattle.records.specs.Said.{rowOf}
-use Rattle.meaning.specs.Forms.{holds}
+-- `ranges::row_fits` meets its contract; facts are named, so that a wrong one is refused for certain. Assumes nothing.
+use Rattle.ranges.proofs.Returns.{row-said}
 use borrow.Author.Needs.{needs}
 use Rattle.ranges.proofs.row_fits.Statement.{statement}
 use Rattle.ranges.proofs.row_fits.Tie as tie
 
 pub row-fits-spec : {M : Type 1} → statement M
-unfolding rowFits rowOf holds
 row-fits-spec =
     tie.close
     (tie.spec
@@ -16,4 +13,10 @@ row-fits-spec =
     (λ c κs. search needs)
     (λ c κs. search needs)
     (λ c κs. search needs)
-    (λ c. cc))
+    (λ c.
+    row-said _
+    (c .and2 .ensures)
+    (c .before .values-fit .ensures)
+    (c .before .before .and .ensures)
+    (c .before .before .before .small .ensures)
+    (c .before .before .before .before .key-fits .ensures)))
