@@ -1,4 +1,4 @@
--- `records::clashes` meets its contract. Assumes nothing.
+-- `records::clashes` meets its contract; facts are named, so that a wrong one is refused for certain. Assumes nothing.
 use Rattle.records.proofs.Returns.{clash-said}
 use borrow.Author.Needs.{needs}
 use Rattle.records.proofs.clashes.Statement.{statement}
@@ -12,4 +12,11 @@ clashes-spec =
     (λ c κs. search needs)
     (λ c κs. search needs)
     (λ c κs. search needs)
-    (λ c. search clash-said))
+    (λ c.
+    let begun = c .before .before .before in
+    let of = begun .before .before .before in
+    clash-said _ _
+    (c .and4 .ensures)
+    (begun .and3 .ensures)
+    (of .and2 .ensures)
+    (of .before .before .before .and .ensures)))
