@@ -15,7 +15,8 @@ clashes-spec =
     (λ c.
     let begun = c .before .before .before in
     let of = begun .before .before .before in
-    clash-said _ _
+    let asked = of .before .before .before .before .before .before .before .before in
+    clash-said (asked .args .t) (asked .args .p)
     (c .and4 .ensures)
     (begun .and3 .ensures)
     (of .and2 .ensures)
