@@ -1,5 +1,5 @@
 #!/usr/bin/env python3
-"""Writes what differs between the tables only in sizes and names: the structs, reading and storing (crates/places).
+"""Writes what differs between the tables only in sizes and names: the structs and reading (crates/places), storing (crates/stores).
 Usage: places.py (in the repository's root), then rt fmt. The one place where the layout is written; docs/LAYOUT.md says it in words."""
 import os
 
@@ -18,6 +18,7 @@ WHAT = {
 }
 W = {1: "one", 2: "two", 3: "three", 4: "four"}
 C = "crates/places"
+S = "crates/stores"
 
 def write(path, text):
     os.makedirs(os.path.dirname(path), exist_ok=True)
@@ -40,7 +41,10 @@ for s, n, places, quota, fields in TABLES:
 
 # ---- the code
 code = open("tools/places.head.txt").read()
-code = code.replace("LAYOUT", ", ".join(f"{n}At, put{n.capitalize()}, zero{n.capitalize()}" for _, n, *_ in layout))
+code = code.replace("LAYOUT", ", ".join(f"{n}At, zero{n.capitalize()}" for _, n, *_ in layout))
+store = open("tools/stores.head.txt").read()
+store = store.replace("LAYOUT", ", ".join(f"put{n.capitalize()}" for _, n, *_ in layout))
+store = store.replace("USES", "".join(f"use places::{s};\n" for s in sorted(s for s, *_ in layout)))
 for s, n, places, quota, fields, nums, size, at0 in layout:
     addr = f"(i as u32) * {size}" if at0 == 0 else f"{at0} + (i as u32) * {size}"
     code += f"\n// {WHAT[s]}\npub struct {s} {{\n"
@@ -65,29 +69,30 @@ for s, n, places, quota, fields, nums, size, at0 in layout:
     for half in (arr[:3], arr[3:6], arr[6:]) if arr else ():
         k0 = half[0][1]
         ws, vs = " ∷ ".join(W[x[2]] for x in half), " ∷ ".join(f"getD v {x[1]} 0" for x in half)
-        code += f"\n// Values {k0} to {half[-1][1]} of a row.\nfn put_values_{k0}(b: &mut [u8], at: u32, v: [u32; 10])\n"
-        code += f"    ensures {{ λ _. ⌜ now (b .exit) ≡ puts (now (b .entry)) at {half[0][3]} (bytesOf ({ws} ∷ []) ({vs} ∷ [])) ⌝ }}\n{{\n"
-        code += "".join(f"    put_{W[w]}(b, at, {j}, v[{k}]);\n" for f, k, w, j in half) + "}\n"
-    code += f"\npub fn put_{n}(b: &mut [u8], i: u16, r: {s})\n    ensures {{ λ _. ⌜ now (b .exit) ≡ put{n.capitalize()} (now (b .entry)) i r ⌝ }}\n{{\n    let at = {addr};\n"
+        store += f"\n// Values {k0} to {half[-1][1]} of a row.\nfn put_values_{k0}(b: &mut [u8], at: u32, v: [u32; 10])\n"
+        store += f"    ensures {{ λ _. ⌜ now (b .exit) ≡ puts (now (b .entry)) at {half[0][3]} (bytesOf ({ws} ∷ []) ({vs} ∷ [])) ⌝ }}\n{{\n"
+        store += "".join(f"    put_{W[w]}(b, at, {j}, v[{k}]);\n" for f, k, w, j in half) + "}\n"
+    store += f"\npub fn put_{n}(b: &mut [u8], i: u16, r: {s})\n    ensures {{ λ _. ⌜ now (b .exit) ≡ put{n.capitalize()} (now (b .entry)) i r ⌝ }}\n{{\n    let at = {addr};\n"
     if arr:
-        code += "    let values = r.values;\n"
+        store += "    let values = r.values;\n"
     rest = list(nums)
     if all(w == 1 and k is None for f, k, w, j in rest[:4]):
-        code += "    put_head(b, at, " + ", ".join(f"r.{f}" for f, *_ in rest[:4]) + ");\n"
+        store += "    put_head(b, at, " + ", ".join(f"r.{f}" for f, *_ in rest[:4]) + ");\n"
         rest = rest[4:]
     elif all(w == 1 for f, k, w, j in rest[:2]):
-        code += f"    put_pair(b, at, r.{rest[0][0]}, r.{rest[1][0]});\n"
+        store += f"    put_pair(b, at, r.{rest[0][0]}, r.{rest[1][0]});\n"
         rest = rest[2:]
     days = [w for f, k, w, j in rest[-2:]] == [4, 4] and rest[-2][0] == "first"
     for f, k, w, j in rest[:-2] if days else rest:
         if k is None:
-            code += f"    put_{W[w]}(b, at, {j}, " + (f"wide(r.{f})" if w == 1 else f"r.{f}") + ");\n"
+            store += f"    put_{W[w]}(b, at, {j}, " + (f"wide(r.{f})" if w == 1 else f"r.{f}") + ");\n"
         elif k in (0, 3, 6):
-            code += f"    put_values_{k}(b, at, values);\n"
+            store += f"    put_values_{k}(b, at, values);\n"
     if days:
-        code += f"    put_days(b, at, {rest[-2][3]}, r.first, r.last);\n"
-    code += "}\n"
+        store += f"    put_days(b, at, {rest[-2][3]}, r.first, r.last);\n"
+    store += "}\n"
 write(f"{C}/src/lib.rt", code)
+write(f"{S}/src/lib.rt", store)
 
 # ---- the definitions
 spec = """-- The book's four tables: where each place starts, the numbers that stand there, and the record that they are.
@@ -198,8 +203,9 @@ for s, n, places, quota, fields, nums, size, at0 in layout:
     if days:
         steps.append((rest[-2][3], bytes_of(rest[-2:], val)))
     law += chain(f"{n}-put", f"(i : ℕ) (r : {s})", f"({n}Start i)", steps, f"put{n.capitalize()} b i r", f"put{n.capitalize()}")
-write(f"{C}/proofs/Storing.antt", law)
-write(f"{C}/proofs/Lib.antt", "pub mod Reading\npub mod Storing\npub mod Stores\n")
+write(f"{S}/proofs/Storing.antt", law)
+write(f"{S}/proofs/Lib.antt", "pub mod Storing\n")
+write(f"{C}/proofs/Lib.antt", "pub mod Numbers\npub mod Reading\npub mod Stores\n")
 
 # ---- what a store leaves
 law = """-- THE STORES: that place reads back as the record, every other place and every other table reads as before, the length stays.

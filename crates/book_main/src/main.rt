@@ -5,11 +5,11 @@ use places::Period;
 use places::RestrictionType;
 use places::Row;
 use places::Rule;
-use places::put_period;
-use places::put_row;
-use places::put_rule;
-use places::put_type;
 use records::one_if;
+use stores::put_period;
+use stores::put_row;
+use stores::put_rule;
+use stores::put_type;
 
 // Where the tables start (docs/LAYOUT.md).
 const RULES: usize = 1536;

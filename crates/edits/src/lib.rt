@@ -26,10 +26,6 @@ use places::RestrictionType;
 use places::Row;
 use places::Rule;
 use places::period_at;
-use places::put_period;
-use places::put_row;
-use places::put_rule;
-use places::put_type;
 use places::row_at;
 use places::row_csd;
 use places::rule_at;
@@ -42,6 +38,10 @@ use records::and;
 use records::no;
 use records::or;
 use records::row_meets;
+use stores::put_period;
+use stores::put_row;
+use stores::put_rule;
+use stores::put_type;
 
 // ---- Refusals: the conditions are computed, and the first that holds is given.
 

@@ -157,10 +157,10 @@ fn done(book: &mut [u8], line: Line) {
     let at = place(n[1]);
     let letter = line.letter;
     match letter {
-        b'T' => places::put_type(book, at, type_of(n)),
-        b'R' => places::put_rule(book, at, rule_of(n)),
-        b'M' => places::put_row(book, at, row_of(n)),
-        b'A' => places::put_period(book, at, period_of(n)),
+        b'T' => stores::put_type(book, at, type_of(n)),
+        b'R' => stores::put_rule(book, at, rule_of(n)),
+        b'M' => stores::put_row(book, at, row_of(n)),
+        b'A' => stores::put_period(book, at, period_of(n)),
         _ => ask(book, question_of(n)),
     }
 }

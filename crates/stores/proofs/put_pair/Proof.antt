@@ -1,0 +1,16 @@
+-- `stores::put_pair` meets its contract. Assumes nothing.
+use Rattle.stores.proofs.Storing.{pair-put}
+use borrow.Author.Needs.{needs}
+use Rattle.stores.proofs.put_pair.Statement.{statement}
+use Rattle.stores.proofs.put_pair.Tie as tie
+
+pub put-pair-spec : {M : Type 1} → statement M
+put-pair-spec =
+    tie.close
+    (tie.spec
+    (λ c κs. search needs)
+    (λ c κs. search needs)
+    (λ c κs. search needs)
+    (λ c κs. search needs)
+    (λ c. search needs)
+    (λ c. search pair-put))
