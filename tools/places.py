@@ -120,7 +120,7 @@ for s, n, places, quota, fields, nums, size, at0 in layout:
 write(f"{C}/specs/Layout.antt", spec)
 write(f"{C}/specs/Lib.antt", "pub mod Layout\n")
 
-# ---- reading: what the calls return is the record. A law, since cc gives up at so many calls
+# ---- reading: what the calls return is the record. A law over plain values, so that a wrong reading is refused for certain
 law = """-- What the calls of a reading return, taken together, is the record. Written by tools/places.py.
 use Prim.Native.Nat.{ℕ}
 use mathlib.Core.Path.{_≡_}
@@ -141,7 +141,8 @@ for s, n, places, quota, fields, nums, size, at0 in layout:
 write(f"{C}/proofs/Reading.antt", law)
 
 # ---- storing: one store after the other stores the record
-law = """-- Stores one after the other, as the functions make them. Written by tools/places.py.
+law = """-- Stores one after the other, as the functions make them. The premises stand last store first: then each says which list the next is about.
+-- Written by tools/places.py.
 use Prim.Native.Nat.{ℕ, _+_}
 use mathlib.Core.Path.{_≡_}
 use mathlib.Core.List.{List, [], _∷_}
@@ -151,9 +152,9 @@ use Rattle.tables.specs.Bytes.{one, two, three, four, digits, bytesOf, puts}
 use Rattle.places.specs.Layout.{LAYOUT}
 USES
 
-pub days-put : (b b0 b1 : List ℕ) (at j first last : ℕ) → b0 ≡ puts b at j (digits four first) → b1 ≡ puts b0 at (j + 4) (digits four last) → b1 ≡ puts b at j (bytesOf (four ∷ four ∷ []) (first ∷ last ∷ []))
+pub days-put : (b b0 b1 : List ℕ) (at j first last : ℕ) → b1 ≡ puts b0 at (j + 4) (digits four last) → b0 ≡ puts b at j (digits four first) → b1 ≡ puts b at j (bytesOf (four ∷ four ∷ []) (first ∷ last ∷ []))
 unfolding puts digits bytesOf
-days-put b b0 b1 at j first last h0 h1 = rw (h1, h0) (simp add-assoc)
+days-put b b0 b1 at j first last h1 h0 = rw (h1, h0) (simp add-assoc)
 """.replace("LAYOUT", ", ".join(f"{n}Start, put{n.capitalize()}" for _, n, *_ in layout)).replace("USES", "\n".join(f"use Rattle.places.specs.declared.{s}.{{{s}}}" for s, *_ in layout))
 def bytes_of(group, val):
     return "(bytesOf (" + " ∷ ".join(W[x[2]] for x in group) + " ∷ []) (" + " ∷ ".join(val(x) for x in group) + " ∷ []))"
@@ -162,17 +163,15 @@ def chain(name, binders, at, steps, result, unfold):
     wides = [f"w{m}" for m, st in enumerate(steps) if len(st) == 3]
     binders += f" ({' '.join(wides)} : ℕ)" if wides else ""
     t = f"\npub {name} : (b {' '.join(f'b{m}' for m in range(len(steps)))} : List ℕ) {binders} → "
-    hs = [f"h{m}" for m in range(len(steps))]
-    order = list(reversed(hs))
-    args = []
-    for m, (j, what, *wide) in enumerate(steps):
-        if wide:
-            t += f"w{m} ≡ {wide[0]} → "
-            what = f"(digits one w{m})"
-            args.append(f"e{m}")
-            order.append(f"e{m}")
+    order, args = [f"h{m}" for m in reversed(range(len(steps)))], []
+    for m, (j, what, *wide) in reversed(list(enumerate(steps))):
+        what = f"(digits one w{m})" if wide else what
         t += f"b{m} ≡ puts {'b' if m == 0 else f'b{m - 1}'} {at} {j} {what} → "
         args.append(f"h{m}")
+        if wide:
+            t += f"w{m} ≡ {wide[0]} → "
+            args.append(f"e{m}")
+            order.append(f"e{m}")
     vs = []
     for part in binders.split(")"):
         if "(" in part:

@@ -12,4 +12,7 @@ put-days-spec =
     (λ c. search needs)
     (λ c κs. search needs)
     (λ c. search needs)
-    (λ c. search days-put))
+    (λ c.
+    let s1 = c .before .before in
+    let s0 = s1 .before .before .before .before in
+    days-put _ _ _ _ _ _ _ (s1 .put-four2 .ensures) (s0 .put-four .ensures)))

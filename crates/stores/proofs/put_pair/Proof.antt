@@ -13,4 +13,7 @@ put-pair-spec =
     (λ c κs. search needs)
     (λ c κs. search needs)
     (λ c. search needs)
-    (λ c. search pair-put))
+    (λ c.
+    let s1 = c .before .before in
+    let s0 = s1 .before .before .before .before .before in
+    pair-put _ _ _ _ _ _ _ _ (s1 .put-one2 .ensures) (s1 .before .wide2 .ensures) (s0 .put-one .ensures) (s0 .before .wide .ensures)))

@@ -15,4 +15,9 @@ put-period-spec =
     (λ c κs. search needs)
     (λ c κs. search needs)
     (λ c. search needs)
-    (λ c. search period-put))
+    (λ c.
+    let s3 = c .before .before in
+    let s2 = s3 .before .before .before .before in
+    let s1 = s2 .before .before .before .before in
+    let s0 = s1 .before .before .before .before in
+    period-put _ _ _ _ _ _ _ (s3 .put-days .ensures) (s2 .put-two .ensures) (s1 .put-three .ensures) (s0 .put-pair .ensures)))

@@ -16,4 +16,9 @@ put-rule-spec =
     (λ c κs. search needs)
     (λ c κs. search needs)
     (λ c. search needs)
-    (λ c. search rule-put))
+    (λ c.
+    let s3 = c .before .before in
+    let s2 = s3 .before .before .before .before in
+    let s1 = s2 .before .before .before .before in
+    let s0 = s1 .before .before .before .before .before in
+    rule-put _ _ _ _ _ _ _ _ (s3 .put-days .ensures) (s2 .put-two .ensures) (s1 .put-one .ensures) (s1 .before .wide .ensures) (s0 .put-head .ensures)))

@@ -12,4 +12,7 @@ put-type-spec =
     (λ c κs. search needs)
     (λ c κs. search needs)
     (λ c. search needs)
-    (λ c. search type-put))
+    (λ c.
+    let s1 = c .before .before in
+    let s0 = s1 .before .before .before .before in
+    type-put _ _ _ _ _ (s1 .put-days .ensures) (s0 .put-head .ensures)))

@@ -15,4 +15,8 @@ put-values-0-spec =
     (λ c. search needs)
     (λ c κs. search needs)
     (λ c. search needs)
-    (λ c. search values-0-put))
+    (λ c.
+    let s2 = c .before .before in
+    let s1 = s2 .before .before .before .before in
+    let s0 = s1 .before .before .before .before in
+    values-0-put _ _ _ _ _ _ _ _ (s2 .put-one3 .ensures) (s1 .put-one2 .ensures) (s0 .put-one .ensures)))

@@ -15,4 +15,8 @@ put-values-3-spec =
     (λ c. search needs)
     (λ c κs. search needs)
     (λ c. search needs)
-    (λ c. search values-3-put))
+    (λ c.
+    let s2 = c .before .before in
+    let s1 = s2 .before .before .before .before in
+    let s0 = s1 .before .before .before .before in
+    values-3-put _ _ _ _ _ _ _ _ (s2 .put-three2 .ensures) (s1 .put-three .ensures) (s0 .put-four .ensures)))

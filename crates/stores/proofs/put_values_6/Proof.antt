@@ -17,4 +17,9 @@ put-values-6-spec =
     (λ c. search needs)
     (λ c κs. search needs)
     (λ c. search needs)
-    (λ c. values-6-put _ _ _ _ _ _ _ _ _ _ (c .before .before .before .before .before .before .before .before .before .before .before .before .before .before .put-two .ensures) (c .before .before .before .before .before .before .before .before .before .before .put-two2 .ensures) (c .before .before .before .before .before .before .put-two3 .ensures) (c .before .before .put-three .ensures)))
+    (λ c.
+    let s3 = c .before .before in
+    let s2 = s3 .before .before .before .before in
+    let s1 = s2 .before .before .before .before in
+    let s0 = s1 .before .before .before .before in
+    values-6-put _ _ _ _ _ _ _ _ _ _ (s3 .put-three .ensures) (s2 .put-two3 .ensures) (s1 .put-two2 .ensures) (s0 .put-two .ensures)))
