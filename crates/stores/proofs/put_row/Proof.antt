@@ -15,9 +15,4 @@ put-row-spec =
     (λ c κs. search needs)
     (λ c κs. search needs)
     (λ c. search needs)
-    (λ c.
-    let s3 = c .before .before in
-    let s2 = s3 .before .before .before .before in
-    let s1 = s2 .before .before .before .before in
-    let s0 = s1 .before .before .before .before in
-    row-put _ _ _ _ _ _ _ (s3 .put-values-6 .ensures) (s2 .put-values-3 .ensures) (s1 .put-values-0 .ensures) (s0 .put-head .ensures)))
+    (λ c. row-put _ _ _ _ _ _ _ (c .before .before .put-values-6 .ensures) (search needs) (c .before .before .before .before .before .before .before .before .before .before .put-values-0 .ensures) (c .before .before .before .before .before .before .before .before .before .before .before .before .before .before .put-head .ensures)))
