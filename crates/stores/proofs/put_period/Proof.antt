@@ -20,4 +20,5 @@ put-period-spec =
     let s2 = s3 .before .before .before .before in
     let s1 = s2 .before .before .before .before in
     let s0 = s1 .before .before .before .before in
-    period-put _ _ _ _ _ _ _ (s3 .put-days .ensures) (s2 .put-two .ensures) (s1 .put-three .ensures) (s0 .put-pair .ensures)))
+    let a = s0 .before .before .before .args in
+    period-put _ _ _ _ _ (a .i) (a .r) (s3 .put-days .ensures) (s2 .put-two .ensures) (s1 .put-three .ensures) (s0 .put-pair .ensures)))

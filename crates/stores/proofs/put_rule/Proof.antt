@@ -21,4 +21,5 @@ put-rule-spec =
     let s2 = s3 .before .before .before .before in
     let s1 = s2 .before .before .before .before in
     let s0 = s1 .before .before .before .before .before in
-    rule-put _ _ _ _ _ _ _ _ (s3 .put-days .ensures) (s2 .put-two .ensures) (s1 .put-one .ensures) (s1 .before .wide .ensures) (s0 .put-head .ensures)))
+    let a = s0 .before .before .before .args in
+    rule-put _ _ _ _ _ (a .i) (a .r) _ (s3 .put-days .ensures) (s2 .put-two .ensures) (s1 .put-one .ensures) (s1 .before .wide .ensures) (s0 .put-head .ensures)))

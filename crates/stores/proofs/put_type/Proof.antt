@@ -15,4 +15,5 @@ put-type-spec =
     (λ c.
     let s1 = c .before .before in
     let s0 = s1 .before .before .before .before in
-    type-put _ _ _ _ _ (s1 .put-days .ensures) (s0 .put-head .ensures)))
+    let a = s0 .before .before .before .args in
+    type-put _ _ _ (a .i) (a .r) (s1 .put-days .ensures) (s0 .put-head .ensures)))
