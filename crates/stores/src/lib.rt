@@ -65,7 +65,7 @@ fn put_four(b: &mut [u8], at: u32, j: u16, v: u32)
     put_byte(b, at, k + 3, low(v / 256 / 256 / 256));
 }
 
-// The first four bytes of a place, and the first two. No function makes more than four stores: the search for a chain of five breaks off.
+// The first four bytes of a place, and the first two.
 fn put_head(b: &mut [u8], at: u32, x: u8, y: u8, z: u8, u: u8)
     ensures { λ _. ⌜ now (b .exit) ≡ puts (now (b .entry)) at 0 (bytesOf (one ∷ one ∷ one ∷ one ∷ []) (x ∷ y ∷ z ∷ u ∷ [])) ⌝ }
 {
