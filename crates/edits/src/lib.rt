@@ -1,8 +1,8 @@
 // The nine edits on the lent book: refusals 6 to 10, and what an accepted edit leaves.
 ghost use mathlib.Core.Path.{_≡_};
-ghost use mathlib.Core.Bool.{cond, _&&_};
+ghost use mathlib.Core.Bool.{cond};
 ghost use Prim.Native.Nat.{_%_};
-ghost use lib.Dec.{leb, ltb, eqb};
+ghost use lib.Dec.{leb};
 ghost use lib.ListN.{length};
 ghost use Rattle.tables.specs.Count.{has};
 ghost use Rattle.meaning.specs.Records.{addType, endType, addRule, reorder, deleteRule, addRow, deleteRow, addPeriod, endPeriod};

@@ -7,7 +7,7 @@ use native.Mathlib.Omega.{arith}
 use lib.Dec.{eqb, ltb}
 use lib.ListN.{length, getD}
 use borrow.Author.Tests.{lt-ltb, ne-eqb}
-use Rattle.tables.specs.Count.{count, every}
+use Rattle.tables.specs.Count.{every}
 use Rattle.tables.proofs.Counts.{cases-eq, count-ext, every-count}
 use Rattle.meaning.specs.Forms.{holds, holdsAll, optional, upTo, tenValues}
 use Rattle.places.proofs.Stores.{ten}
