@@ -1,5 +1,5 @@
 #!/usr/bin/env python3
-"""Writes what a store at one place leaves of the lone lists (crates/book/proofs/Kept.antt), for each table.
+"""Writes what a store at one place leaves of the lone lists (crates/book/proofs/ListsKept.antt), for each table.
 Usage: edits.py (in the repository's root), then rt fmt."""
 T = [("type", "RestrictionType", 128, 12, "TypeRecord", 6), ("rule", "Rule", 512, 15, "Rule", 8), ("row", "Row", 1024, 26, "Row", 14), ("period", "Period", 1024, 15, "Period", 6)]
 out = """-- What a store at one place leaves of the lone lists. Written by tools/edits.py.
@@ -67,4 +67,4 @@ module _ (b : List ℕ) (i c : ℕ) (t : M.{R} → Bool) (place : i < {N}) (size
       lone-changed (λ x. x .csd) {n}Of c t ({n}At b) i {N} place own hit once ({n}At (put{P} b i r)) (λ k l. {n}-other b i r k) g
       (ap (λ x. x .csd) e ∙ o) (ap {n}Of e ∙ f) {N} (omega arith)
 """
-open("crates/book/proofs/Kept.antt", "w").write(out)
+open("crates/book/proofs/ListsKept.antt", "w").write(out)

@@ -14,7 +14,7 @@ WHAT = {
     "RestrictionType": "A restriction type of a depository: what becomes of an object that its rules match.",
     "Rule": "A rule of a type, with the criteria that its rows fill.",
     "Row": "A row of a rule: its ten values, 0 where empty.",
-    "Period": "An attribute period: the days on which a party, an account or a security bears a code.",
+    "Period": "An attribute period: the days on which a party, an account or a security hasCode a code.",
 }
 W = {1: "one", 2: "two", 3: "three", 4: "four"}
 C = "crates/places"
@@ -108,6 +108,7 @@ spec += f"\n-- the book's size\nabbrev pub bookSize : ℕ\nbookSize = {start}\n"
 for s, n, places, quota, fields, nums, size, at0 in layout:
     N = n.capitalize()
     spec += f"\n-- ---- {places} places of {size} bytes, from {at0}\n"
+    spec += f"\nabbrev pub {n}Places : ℕ\n{n}Places = {places}\n"
     spec += f"\nabbrev pub {n}Start : ℕ → ℕ\n{n}Start i = " + (f"i * {size}" if at0 == 0 else f"{at0} + i * {size}") + "\n"
     spec += f"\nabbrev pub {n}Widths : List Width\n{n}Widths = " + " ∷ ".join(W[x[2]] for x in nums) + " ∷ []\n"
     spec += f"\nabbrev pub {n}From : List ℕ → {s}\n{n}From v = record {{\n  "

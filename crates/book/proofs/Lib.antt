@@ -1,7 +1,7 @@
 pub mod Looking
 pub mod Place
-pub mod Right
+pub mod BookReturns
 pub mod NoRecords
 pub mod Facts
 pub mod Found
-pub mod Kept
+pub mod ListsKept

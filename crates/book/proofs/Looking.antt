@@ -7,7 +7,7 @@ use lib.Dec.{eqb}
 use Rattle.tables.specs.Count.{bit, countBelow, findBelow}
 use Rattle.tables.proofs.Counts.{count-more, find-none, find-more}
 use Rattle.owners.specs.Next.{next}
-use Rattle.owners.proofs.Passing.{count-next}
+use Rattle.owners.proofs.NextPassing.{count-next}
 
 -- ---- counted: k is the next place of depository a from place i on
 

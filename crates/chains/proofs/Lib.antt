@@ -1,4 +1,4 @@
 pub mod Chaining
 pub mod Earlier
-pub mod Passing
+pub mod ChainPassing
 pub mod Blocking

@@ -137,7 +137,7 @@ fn add_argument(line: &mut [u8], at: usize, i: usize, bytes: &[u8]) -> usize
     add(line, end, bytes)
 }
 
-// A T line that bears the arguments: csd, day, first and last day are read as every line's fields are.
+// A T line made of the arguments: csd, day, first and last day are read as every line's fields are.
 fn type_line(line: &mut [u8]) -> usize
     ensures { λ r. ⌜ r ≤ length (now (line .exit)) ⌝ }
 {

@@ -25,7 +25,7 @@ use Rattle.book.specs.Sound.{allPlaced}
 use Rattle.edits.specs.Leaves.{Leaves}
 use Rattle.edits.proofs.Placed.{of-one, rule-placed, row-placed}
 use Rattle.edits.specs.Moves.{ruleWith, rowWith, carried, carryRow, carryRows, reorderIn}
-use Rattle.book.proofs.Kept.{types-by-rule, types-by-row, rules-by-row, rows-by-rule, periods-by-rule, periods-by-row, rules-still, rules-changed}
+use Rattle.book.proofs.ListsKept.{types-by-rule, types-by-row, rules-by-row, rows-by-rule, periods-by-rule, periods-by-row, rules-still, rules-changed}
 
 alter-none : {R : Type 0} (l : List R) → alter (λ x. x) l ≡ l
 unfolding alter

@@ -24,7 +24,7 @@ use Rattle.records.specs.Free.{typeZero, ruleZero, rowZero, periodZero}
 use Rattle.edits.specs.Leaves.{Leaves}
 use Rattle.edits.proofs.Placed.{of-one, type-placed, rule-placed, row-placed, period-placed}
 use Rattle.edits.specs.Edit.{typeEnded, periodEnded}
-use Rattle.book.proofs.Kept.{types-by-rule, types-by-row, types-by-period, rules-by-type, rules-by-row, rules-by-period, rows-by-type, rows-by-rule, rows-by-period, periods-by-type, periods-by-rule, periods-by-row, types-still, types-added, types-changed, rules-still, rules-added, rules-removed, rows-still, rows-added, rows-removed, periods-still, periods-added, periods-changed}
+use Rattle.book.proofs.ListsKept.{types-by-rule, types-by-row, types-by-period, rules-by-type, rules-by-row, rules-by-period, rows-by-type, rows-by-rule, rows-by-period, periods-by-type, periods-by-rule, periods-by-row, types-still, types-added, types-changed, rules-still, rules-added, rules-removed, rows-still, rows-added, rows-removed, periods-still, periods-added, periods-changed}
 
 -- ---- D and N: the record's place is zero
 

@@ -7,7 +7,7 @@ use lib.ListN.{length}
 use Rattle.tables.specs.Keyed.{marked}
 use Rattle.tables.proofs.Keying.{keyed-marks}
 use Rattle.meaning.specs.declared.Verdict.{Verdict}
-use Rattle.matching.specs.Rows.{ruleKeys, codesBorne, rowsMatched, RowsMarked}
+use Rattle.matching.specs.MatchedRows.{ruleKeys, codesBorne, rowsMatched, RowsMarked}
 use Rattle.judge.specs.Stages.{rulesMatched, signsMatched, typesNamed, verdict, judgedBy}
 use Rattle.matching.specs.declared.Question.{Question}
 

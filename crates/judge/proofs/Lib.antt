@@ -1,4 +1,4 @@
 pub mod Judging
-pub mod Types
+pub mod VerdictReturns
 pub mod Listing
-pub mod Right
+pub mod VerdictRight

@@ -11,7 +11,7 @@ use Rattle.tables.specs.Below.{leastBelow}
 use Rattle.tables.proofs.Counts.{cases-eq}
 use Rattle.meaning.specs.Records.{positive, negative}
 use Rattle.rules.specs.Search.{noRule, mayDecide, firstPositive, sequenceOf}
-use Rattle.rules.specs.declared.Judged.{Judged}
+use Rattle.rules.specs.declared.ListedRule.{ListedRule}
 use Rattle.rules.specs.declared.First.{First}
 use Rattle.rules.specs.declared.First.the-variants.{At, Nothing}
 use Rattle.rules.proofs.Rising.{rising}
@@ -23,7 +23,7 @@ module _ (rules : ℕ → Bool) where
 
   -- ---- the list, one sequence after the other
 
-  pub listed-none : (t : List Judged) → t ≡ noneListed → Listed rules 1 t
+  pub listed-none : (t : List ListedRule) → t ≡ noneListed → Listed rules 1 t
   unfolding noneListed
   listed-none t e = record {
     long = ap length e ∙ length-replicate 100 noRule;
@@ -31,7 +31,7 @@ module _ (rules : ℕ → Bool) where
     each = λ s o l. absurd (omega arith);
   }
 
-  pub listed-more : (t u : List Judged) (s : ℕ) (r : Judged) → u ≡ set t s r → r ≡ judgedRule rules s → Listed rules s t → 1 ≤ s → s < 100 → Listed rules (s + 1) u
+  pub listed-more : (t u : List ListedRule) (s : ℕ) (r : ListedRule) → u ≡ set t s r → r ≡ judgedRule rules s → Listed rules s t → 1 ≤ s → s < 100 → Listed rules (s + 1) u
   listed-more t u s r eu er m o l = record {
     long = ap length eu ∙ length-set t s r ∙ m .long;
     none = ap (λ l. getD l 0 noRule) eu ∙ getD-set-other t s 0 r noRule (λ z. omega arith) ∙ m .none;
@@ -49,17 +49,17 @@ module _ (rules : ℕ → Bool) where
   may true b = refl
   may false b = refl
 
-  firsts : (t : List Judged) → Listed rules 100 t → sequenceOf (firstPositive t) ≡ firstRule rules
+  firsts : (t : List ListedRule) → Listed rules 100 t → sequenceOf (firstPositive t) ≡ firstRule rules
   unfolding firstRule
   firsts t m =
       rising t (λ s. rules (signKey s positive)) (ap mayDecide (m .none))
       (λ s o l. ap mayDecide (m .each s o (omega (arith, m .long))) ∙ may (rules (signKey s positive)) (rules (signKey s negative)))
-      (λ s o l. ap (λ (r : Judged). r .sequence) (m .each s o (omega (arith, m .long))))
+      (λ s o l. ap (λ (r : ListedRule). r .sequence) (m .each s o (omega (arith, m .long))))
       (omega (arith, m .long))
       ∙ ap (leastBelow (λ s. cond (rules (signKey s positive)) s 0)) (m .long)
 
-  pub first-at : (t : List Judged) (f : First) (s : ℕ) → f ≡ At s → f ≡ firstPositive t → Listed rules 100 t → s ≡ firstRule rules
+  pub first-at : (t : List ListedRule) (f : First) (s : ℕ) → f ≡ At s → f ≡ firstPositive t → Listed rules 100 t → s ≡ firstRule rules
   first-at t f s e d m = ap sequenceOf (sym e ∙ d) ∙ firsts t m
 
-  pub first-nothing : (t : List Judged) (f : First) → f ≡ Nothing → f ≡ firstPositive t → Listed rules 100 t → 0 ≡ firstRule rules
+  pub first-nothing : (t : List ListedRule) (f : First) → f ≡ Nothing → f ≡ firstPositive t → Listed rules 100 t → 0 ≡ firstRule rules
   first-nothing t f e d m = ap sequenceOf (sym e ∙ d) ∙ firsts t m

@@ -1,4 +1,4 @@
--- How a question is judged over the places of the lent book, by the rules of which a row matches (matching/specs/Rows, stages 1 and 2): a pass over
+-- How a question is judged over the places of the lent book, by the rules of which a row matches (matching/specs/MatchedRows, stages 1 and 2): a pass over
 -- the rules and the types, and one over the rules for each type that is named. A stage leaves marks, tests of the keys of a table of numbers; each
 -- definition is of any bytes. Assumes nothing.
 use Prim.Native.Nat.{ℕ, _+_, _*_, _<_, _≤_}
@@ -18,8 +18,8 @@ use Rattle.places.specs.Layout.{typeAt, ruleAt}
 use Rattle.places.specs.declared.RestrictionType.{RestrictionType}
 use Rattle.places.specs.declared.Rule.{Rule}
 use Rattle.rules.specs.Search.{noRule}
-use Rattle.rules.specs.declared.Judged.{Judged}
-use Rattle.matching.specs.Rows.{ruleKey, codesBorne, rowsMatched}
+use Rattle.rules.specs.declared.ListedRule.{ListedRule}
+use Rattle.matching.specs.MatchedRows.{ruleKey, codesBorne, rowsMatched}
 use Rattle.matching.specs.declared.Question.{Question}
 
 -- ---- the keys of the tables: the last part of each is below 3
@@ -95,7 +95,7 @@ rulesMatched b q rows type =
     keys (λ r. r .csd) (q .csd) (ruleAt b) signedKey (ruleOfType q rows type) signKeys 512
 
 -- the type's rule at a sequence, by the marks of its two signs; a sound book has one rule there at most
-abbrev pub judgedRule : (ℕ → Bool) → ℕ → Judged
+abbrev pub judgedRule : (ℕ → Bool) → ℕ → ListedRule
 judgedRule rules s = record {
   sequence = s;
   sign = cond (rules (signKey s positive)) positive negative;
@@ -103,11 +103,11 @@ judgedRule rules s = record {
 }
 
 -- no rule at any sequence
-unfoldable pub noneListed : List Judged
+unfoldable pub noneListed : List ListedRule
 noneListed = replicate 100 noRule
 
 -- the rules of a type below sequence n, each at the place of its sequence; no rule has sequence 0
-pub record Listed (rules : ℕ → Bool) (n : ℕ) (t : List Judged) : Type 0 where
+pub record Listed (rules : ℕ → Bool) (n : ℕ) (t : List ListedRule) : Type 0 where
   pub long : length t ≡ 100
   pub none : getD t 0 noRule ≡ noRule
   pub each : (s : ℕ) → 1 ≤ s → s < n → getD t s noRule ≡ judgedRule rules s

@@ -3,7 +3,7 @@
 ghost use mathlib.Core.Path.{_≡_};
 ghost use mathlib.Core.Bool.{cond};
 ghost use lib.ListN.{length, getD};
-ghost use Rattle.matching.specs.Rows.{ruleKeys};
+ghost use Rattle.matching.specs.MatchedRows.{ruleKeys};
 ghost use Rattle.tables.specs.Count.{lesser};
 ghost use Rattle.tables.specs.Keyed.{marked, Blank};
 ghost use Rattle.judge.specs.Stages.{signKey, typeKey, signKeys, typeKeys, ruleMatches, ruleOfType, markRule, rulesMatched, markSign, signsMatched, typeApplies, nameType, typesNamed, judgedRule, noneListed, Listed, firstRule, decided, verdict, judgedBy};
@@ -24,7 +24,7 @@ use records::and;
 use records::no;
 use records::or;
 use rules::First;
-use rules::Judged;
+use rules::ListedRule;
 
 fn pick(a: bool, x: u8, y: u8) -> u8
     ensures { λ r. ⌜ r ≡ cond a x y ⌝ }
@@ -215,13 +215,13 @@ fn rules_matched(t: &mut [u8], b: &[u8], q: Question, rows: &[u8], number: u8)
 }
 
 // The type's rule at a sequence, as judged. A sound book has one rule there at most, so one mark.
-fn judged_rule(rules: &[u8], sequence: u8) -> Judged
+fn judged_rule(rules: &[u8], sequence: u8) -> ListedRule
     ensures { λ r. ⌜ r ≡ judgedRule (marked (now (rules .entry))) sequence ⌝ }
 {
     let s = sequence as u16;
     let positive = is_marked(rules, sign_key(s, 1));
     let negative = is_marked(rules, sign_key(s, 2));
-    Judged {
+    ListedRule {
         sequence,
         sign: pick(positive, 1, 2),
         matches: or(positive, negative),
@@ -229,10 +229,10 @@ fn judged_rule(rules: &[u8], sequence: u8) -> Judged
 }
 
 // A list without a rule.
-fn none_listed() -> [Judged; 100]
+fn none_listed() -> [ListedRule; 100]
     ensures { λ r. ⌜ r ≡ noneListed ⌝ }
 {
-    let none = Judged {
+    let none = ListedRule {
         sequence: 0,
         sign: 0,
         matches: false,
@@ -241,7 +241,7 @@ fn none_listed() -> [Judged; 100]
 }
 
 // The rules of a type, each at the place of its sequence. No rule has sequence 0.
-fn rules_listed(rules: &[u8]) -> [Judged; 100]
+fn rules_listed(rules: &[u8]) -> [ListedRule; 100]
     ensures { λ r. ⌜ Listed (marked (now (rules .entry))) 100 r ⌝ }
 {
     let mut t = none_listed();
@@ -302,7 +302,7 @@ fn verdict(b: &[u8], q: Question, rows: &[u8], named: &[u8]) -> Verdict
     }
 }
 
-// The verdict on a question, for any bytes; over a sound book it is the written meaning's (proofs/Right.antt).
+// The verdict on a question, for any bytes; over a sound book it is the written meaning's (proofs/VerdictRight.antt).
 pub fn judge(book: &[u8], q: Question) -> Verdict
     ensures { λ r. ⌜ r ≡ judgedBy (now (book .entry)) q ⌝ }
 {

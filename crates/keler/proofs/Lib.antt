@@ -3,4 +3,4 @@ pub mod Tables
 pub mod SetLines
 pub mod Sizes
 pub mod Stepping
-pub mod Callers
+pub mod KelerCallers

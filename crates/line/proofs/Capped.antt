@@ -9,7 +9,7 @@ use lib.Dec.{leb}
 use lib.ListN.{length}
 use borrow.Author.Tests.{leb-true, leb-false, lt-leb, eq-eqb, ne-eqb}
 use Rattle.tables.specs.Count.{every}
-use Rattle.meaning.specs.Text.{same, placed, word}
+use Rattle.meaning.specs.Text.{same, wordPlace, word}
 use Rattle.meaning.specs.Fields.{within, isCapital}
 use Rattle.meaning.specs.Forms.{given, isCode, isDay, read, letters, oneOf}
 
@@ -57,11 +57,11 @@ three false false false = refl
 module _ (f a b : List ℕ) {v : Option ℕ} {s t : Bool} {m n : ℕ} where
   pub one-of-two : s ≡ same f a → t ≡ same f b → m ≡ cond t 2 3 → n ≡ cond s 1 m → v ≡ given (leb n 2) n → v ≡ read (oneOf (a ∷ b ∷ [])) f
   unfolding read
-  one-of-two p q x y e = let z : n ≡ placed f (a ∷ b ∷ []) = rw (y, x, p, q) (two (same f a) (same f b)) in rw (← z) e
+  one-of-two p q x y e = let z : n ≡ wordPlace f (a ∷ b ∷ []) = rw (y, x, p, q) (two (same f a) (same f b)) in rw (← z) e
 
   pub one-of-three : (c : List ℕ) {u : Bool} {k : ℕ} → s ≡ same f a → t ≡ same f b → u ≡ same f c → k ≡ cond u 3 4 → m ≡ cond t 2 k → n ≡ cond s 1 m
       → v ≡ given (leb n 3) n → v ≡ read (oneOf (a ∷ b ∷ c ∷ [])) f
   unfolding read
   one-of-three c p q r w x y e =
-      let z : n ≡ placed f (a ∷ b ∷ c ∷ []) = rw (y, x, w, p, q, r) (three (same f a) (same f b) (same f c)) in
+      let z : n ≡ wordPlace f (a ∷ b ∷ c ∷ []) = rw (y, x, w, p, q, r) (three (same f a) (same f b) (same f c)) in
       rw (← z) e

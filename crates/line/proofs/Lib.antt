@@ -1,9 +1,9 @@
-pub mod Returns
+pub mod LineReturns
 pub mod Loops
 pub mod Capped
 pub mod Padding
 pub mod TableRule
-pub mod Rows
+pub mod FieldNumbers
 pub mod Readings
-pub mod Callers
+pub mod LineCallers
 pub mod Walk

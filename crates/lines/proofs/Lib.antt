@@ -1,6 +1,6 @@
-pub mod Callers
+pub mod LinesCallers
 pub mod Ending
 pub mod Laying
 pub mod Steps
 pub mod Turning
-pub mod Whole
+pub mod WholeText

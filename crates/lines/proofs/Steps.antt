@@ -16,7 +16,7 @@ use Rattle.precheck.proofs.Alone.{one-alone}
 use Rattle.precheck.proofs.Submits.{keeps-promise}
 use Rattle.lines.specs.Many.{answerTo, bytesAfter, laid, writtenAs, Standing, room, one, many}
 use Rattle.lines.specs.Whole.{answersOf, bookAfter, joined, Submits, Came, Steps, Whole, DeskAlone}
-use Rattle.lines.proofs.Whole.{whole}
+use Rattle.lines.proofs.WholeText.{whole}
 
 -- ---- submitted one by one
 

@@ -1,4 +1,4 @@
--- A text that is read in pieces is answered as if it had come whole. Stated here, proved in proofs/Whole. Assumes nothing.
+-- A text that is read in pieces is answered as if it had come whole. Stated here, proved in proofs/WholeText. Assumes nothing.
 use Prim.Native.Nat.{ℕ, _+_, _≤_}
 use mathlib.Core.Path.{_≡_}
 use mathlib.Core.Bool.{false}

@@ -1,3 +1,3 @@
-pub mod Rows
+pub mod RowValues
 pub mod Ranged
-pub mod Right
+pub mod MarksRight

@@ -5,7 +5,7 @@ ghost use lib.ListN.{length};
 ghost use Rattle.tables.specs.Keyed.{Blank};
 ghost use Rattle.meaning.specs.Judging.{covers};
 ghost use Rattle.marks.specs.Flags.{flagged};
-ghost use Rattle.matching.specs.Rows.{codeKey, ruleKey, codeEntries, sought, borneBy, markCode, codesBorne, tests, testAt, valueMet, valuesMet, rowMatches, markRow, RowsMarked};
+ghost use Rattle.matching.specs.MatchedRows.{codeKey, ruleKey, codeEntries, sought, borneBy, markCode, codesBorne, tests, testAt, valueMet, valuesMet, rowMatches, markRow, RowsMarked};
 use marks::clear;
 use marks::is_flagged;
 use marks::store;

@@ -12,7 +12,8 @@ use Rattle.tables.proofs.Counts.{both, ands, agree, cases}
 use Rattle.tables.proofs.Lists.{some-of, every-both, every-map, count-under, same-length, same-has, same-every}
 use Rattle.tables.proofs.Limits.{limit-all, limit-each}
 use Rattle.meaning.specs.Records.{TypeRecord, Rule, Row, Period, Book}
-use Rattle.meaning.specs.Keys.{isType, isRule, ofRule, sameNumbers, isRow, isPeriod, clash}
+use Rattle.meaning.specs.Keys.{isType, isRule, ofRule, isRow, isPeriod, clash}
+use Rattle.meaning.proofs.SameLists.{same-self, same-numbers}
 use Rattle.meaning.specs.Sound.{daysFit, typeFits, ruleFits, rowFits, periodFits, goodType, goodRule, fillsRule, goodRow, goodPeriod, quotas, soundLone}
 use Rattle.meaning.specs.SameBook.{SameBook}
 
@@ -67,18 +68,6 @@ pub is-of : (type object sequence : ℕ) (w : Row) → type ≡ w .type → obje
 unfolding ofRule
 is-of type object sequence w x y z =
     rw (eq-eqb (w .sequence) sequence (sym z), eq-eqb (w .type) type (sym x), eq-eqb (w .object) object (sym y))
-
-same-self : (xs : List ℕ) → sameNumbers xs xs ≡ true
-same-self [] = refl
-same-self (x ∷ xs) = rw (eq-eqb x x refl, same-self xs)
-
-pub same-numbers : (xs ys : List ℕ) → sameNumbers xs ys ≡ true → xs ≡ ys
-same-numbers [] [] e = refl
-same-numbers [] (y ∷ ys) e = absurd (false≢true e)
-same-numbers (x ∷ xs) [] e = absurd (false≢true e)
-same-numbers (x ∷ xs) (y ∷ ys) e =
-    let b = both (eqb x y) (sameNumbers xs ys) e in
-    ap₂ _∷_ (eqb-true x y (b .0)) (same-numbers xs ys (b .1))
 
 pub row-key : (a w : Row) → isRow a w ≡ true → a ≡ w
 unfolding isRow

@@ -15,7 +15,7 @@ use Rattle.meaning.specs.Forms.{Letter, holds, holdsAll, day, code, sequ
 use Rattle.meaning.specs.Records.{TypeRecord, Rule, Row, Period, Book, empty, Command, commandOf, addType, endType, addRule, reorder, deleteRule, addRow, deleteRow, addPeriod, endPeriod, ask}
 use Rattle.meaning.specs.Keys.{isType, isRule, ofRule, isRow, isPeriod, clash, filled}
 use Rattle.meaning.specs.Refusals.{outside, typeOutside, periodOutside, otherCriteria, conditions, refusal}
-use Rattle.meaning.specs.Edits.{typeUntil, periodUntil, ruleAt, rowAt, edited}
+use Rattle.meaning.specs.Edits.{typeUntil, periodUntil, ruleMoved, rowMoved, edited}
 use Rattle.meaning.specs.Reading.{Reading, refused, asks, reading}
 use Rattle.meaning.specs.Lone.{unless, taken, afterReading, step, after}
 use Rattle.meaning.proofs.First.{none-hold}
@@ -396,10 +396,10 @@ module _ (b : Book) (g : Good b) where
 
   module _ (n o s new : ℕ) (f : holds sequenceForm new ≡ true) (free : has (isRule n o new) (b .rules) ≡ false) where
     abbrev move : Rule → Rule
-    move r = cond (isRule n o s r) (ruleAt new r) r
+    move r = cond (isRule n o s r) (ruleMoved new r) r
 
     abbrev carry : Row → Row
-    carry w = cond (ofRule n o s w) (rowAt new w) w
+    carry w = cond (ofRule n o s w) (rowMoved new w) w
 
     rule-moved : (r : Rule) → ruleFits r ≡ true → ruleFits (move r) ≡ true
     unfolding ruleFits
@@ -472,13 +472,13 @@ module _ (b : Book) (g : Good b) where
         (λ h. h)
 
     -- So a row at the new key was the one of the same values at the old key, and any other stood where it stands.
-    from-old : (w x : Row) → ofRule n o new w ≡ true → not (ofRule n o new x) ≡ true → isRow w (carry x) ≡ true → isRow (rowAt s w) x ≡ true
+    from-old : (w x : Row) → ofRule n o new w ≡ true → not (ofRule n o new x) ≡ true → isRow w (carry x) ≡ true → isRow (rowMoved s w) x ≡ true
     from-old w x e t h =
         cases (ofRule n o s x)
         (λ z.
-        let q : w ≡ rowAt new x = row-key w (rowAt new x) (rw z at h) in
+        let q : w ≡ rowMoved new x = row-key w (rowMoved new x) (rw z at h) in
         let k = of-key n o s x z in
-        let p : rowAt s w ≡ x = ap (rowAt s) q ∙ (λ i. record { type = x .type; object = x .object; sequence = k .2 i; values = x .values }) in
+        let p : rowMoved s w ≡ x = ap (rowMoved s) q ∙ (λ i. record { type = x .type; object = x .object; sequence = k .2 i; values = x .values }) in
         ap (λ a. isRow a x) p ∙ row-self x)
         (λ z.
         let q : w ≡ x = row-key w x (rw z at h) in
@@ -488,9 +488,9 @@ module _ (b : Book) (g : Good b) where
     from-there w x e h =
         cases (ofRule n o s x)
         (λ z.
-        let q : w ≡ rowAt new x = row-key w (rowAt new x) (rw z at h) in
+        let q : w ≡ rowMoved new x = row-key w (rowMoved new x) (rw z at h) in
         let k = of-key n o s x z in
-        absurd (false≢true (sym e ∙ ap (ofRule n o new) q ∙ is-of n o new (rowAt new x) (k .0) (k .1) refl)))
+        absurd (false≢true (sym e ∙ ap (ofRule n o new) q ∙ is-of n o new (rowMoved new x) (k .0) (k .1) refl)))
         (λ z. rw z at h)
 
     row-once : (w : Row) → count (isRow w) (alter carry (b .rows)) ≤ 1
@@ -500,9 +500,9 @@ module _ (b : Book) (g : Good b) where
         omega (
           arith,
           count-alter (isRow w) carry (b .rows),
-          count-under (λ x. not (ofRule n o new x)) (λ x. isRow w (carry x)) (isRow (rowAt s w)) (b .rows)
+          count-under (λ x. not (ofRule n o new x)) (λ x. isRow w (carry x)) (isRow (rowMoved s w)) (b .rows)
               (every-none (ofRule n o new) (b .rows) (has-false (ofRule n o new) (b .rows) no-rows)) (λ x. from-old w x e),
-          g .rowOnce (rowAt s w),
+          g .rowOnce (rowMoved s w),
         ))
         (λ e.
         omega (
@@ -518,7 +518,7 @@ module _ (b : Book) (g : Good b) where
         cases (ofRule n o s w)
         (λ z.
         let k = rule-key (w .type) (w .object) (w .sequence) r (search ands) in
-        rw (z, rule-of-row n o s w r z h, is-rule (w .type) (w .object) new (ruleAt new r) (k .0) (k .1) refl) (search ands))
+        rw (z, rule-of-row n o s w r z h, is-rule (w .type) (w .object) new (ruleMoved new r) (k .0) (k .1) refl) (search ands))
         (λ z.
         cases (isRule n o s r) (λ t. absurd (false≢true (sym z ∙ row-of-rule n o s w r t h))) (λ t. rw (z, t) h))
 

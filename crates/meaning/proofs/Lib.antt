@@ -4,6 +4,7 @@ pub mod Edges
 pub mod Order
 pub mod Ranges
 pub mod First
+pub mod SameLists
 pub mod Good
 pub mod Kept
 pub mod Names

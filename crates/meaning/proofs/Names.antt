@@ -15,20 +15,16 @@ use Rattle.meaning.specs.Forms.{Form, holds, isNumber, read, formsOf, Le
 use Rattle.meaning.specs.Records.{_!_}
 use Rattle.meaning.specs.Reading.{asks, readAll, reading}
 use Rattle.meaning.specs.Lone.{names, depository}
+use Rattle.meaning.proofs.SameLists.{same-self, same-numbers}
 use Rattle.meaning.proofs.Ranges.{given-some, together-some, holds-at, reading-parts, reading-ranged}
 
 -- ---- a line names one depository at most
-
-same-one : (f : List ℕ) (d : ℕ) → same f (d ∷ []) ≡ true → f ≡ d ∷ []
-same-one [] d e = absurd (false≢true e)
-same-one (c ∷ []) d e = let z : c ≡ d = eqb-true c d (sym (and-true (eqb c d)) ∙ e) in rw z
-same-one (c ∷ x ∷ cs) d e = absurd (false≢true (sym (and-false (eqb c d)) ∙ e))
 
 pub names-depository : (c : ℕ) (line : List ℕ) → 1 ≤ c → c ≤ 8 → names c line ≡ true → depository line ≡ c
 unfolding names depository
 names-depository c line l h e =
     let z : 48 + c - 48 ≡ c = omega arith in
-    rw (same-one (getD (fields line) 1 []) (48 + c) e, le-leb 49 (48 + c) (omega arith), le-leb (48 + c) 56 (omega arith), z)
+    rw (same-numbers (getD (fields line) 1 []) ((48 + c) ∷ []) e, le-leb 49 (48 + c) (omega arith), le-leb (48 + c) 56 (omega arith), z)
 
 -- ---- a number from 1 to 8 is one digit
 
@@ -82,15 +78,12 @@ reading-csd line l v e =
     let h : within 1 8 (v ! 0) ≡ true = csd-first l (λ φs z. holds-at (csdForm ∷ φs) v (rw z at (reading-ranged line l v e)) 0 (omega arith)) in
     (leb-true 1 (v ! 0) (search ands), leb-true (v ! 0) 8 (search ands))
 
-same-self : (c : ℕ) → same (c ∷ []) (c ∷ []) ≡ true
-same-self c = rw (eq-eqb c c refl)
-
 -- A line that is read names the depository of its csd field.
 pub reading-names : (line : List ℕ) (l : Letter) (v : List ℕ) → reading line ≡ asks l v → names (v ! 0) line ≡ true
 unfolding names
 reading-names line l v e =
     let p = reading-parts line l v e in
-    rw (p .cut, csd-read l (p .rest) v (p .numbers)) (same-self (48 + v ! 0))
+    rw (p .cut, csd-read l (p .rest) v (p .numbers)) (same-self ((48 + v ! 0) ∷ []))
 
 pub reading-depository : (line : List ℕ) (l : Letter) (v : List ℕ) → reading line ≡ asks l v → depository line ≡ v ! 0
 reading-depository line l v e =

@@ -10,8 +10,8 @@ use Rattle.meaning.specs.Records.{TypeRecord, Rule, Row, Period, Book, Q
 use Rattle.meaning.specs.Reading.{Reading, refused, asks, reading}
 use Rattle.meaning.specs.Keys.{isType, isRule, ofRule, isRow, isPeriod, clash}
 use Rattle.meaning.specs.Refusals.{typeOutside, periodOutside, otherCriteria, firstOf, conditions, refusal}
-use Rattle.meaning.specs.Edits.{typeUntil, ruleAt, rowAt, periodUntil, edited}
-use Rattle.meaning.specs.Judging.{covers, meetsAll, bears, tests, matches, speaks, applies, named, deciding, decided, verdict, judged}
+use Rattle.meaning.specs.Edits.{typeUntil, ruleMoved, rowMoved, periodUntil, edited}
+use Rattle.meaning.specs.Judging.{covers, meetsAll, hasCode, tests, matches, ruleApplies, applies, named, deciding, decided, verdict, judged}
 use Rattle.meaning.specs.Lone.{Step, reply, unless, taken, afterReading, step, answersFrom}
 use Rattle.meaning.specs.SameBook.{SameBook}
 use Rattle.meaning.specs.declared.Answer.the-variants.{Judged}
@@ -74,8 +74,8 @@ module _ (b c : Book) (s : SameBook b c) where
       record { types = s .types; rules = same-cons r (b .rules) (c .rules) (s .rules); rows = s .rows; periods = s .periods }
   edited-same (reorder type object sequence new) = record {
     types = s .types;
-    rules = same-change (isRule type object sequence) (ruleAt new) (b .rules) (c .rules) (s .rules);
-    rows = same-change (ofRule type object sequence) (rowAt new) (b .rows) (c .rows) (s .rows);
+    rules = same-change (isRule type object sequence) (ruleMoved new) (b .rules) (c .rules) (s .rules);
+    rows = same-change (ofRule type object sequence) (rowMoved new) (b .rows) (c .rows) (s .rows);
     periods = s .periods;
   }
   edited-same (deleteRule type object sequence) = record {
@@ -109,13 +109,13 @@ module _ (b c : Book) (s : SameBook b c) where
   -- ---- judging
 
   module _ (q : Question) where
-    bears-same : (kind number : ℕ) → bears b q kind number ≡ bears c q kind number
-    unfolding bears
-    bears-same kind number = fun-ext (λ code. periods-has _)
+    hasCode-same : (kind number : ℕ) → hasCode b q kind number ≡ hasCode c q kind number
+    unfolding hasCode
+    hasCode-same kind number = fun-ext (λ code. periods-has _)
 
     tests-same : tests b q ≡ tests c q
     unfolding tests
-    tests-same = rw (bears-same party (q .party), bears-same account (q .account), bears-same security (q .security))
+    tests-same = rw (hasCode-same party (q .party), hasCode-same account (q .account), hasCode-same security (q .security))
 
     matches-same : (r : Rule) → matches b q r ≡ matches c q r
     unfolding matches
@@ -123,16 +123,16 @@ module _ (b c : Book) (s : SameBook b c) where
         rows-has _
         ∙ ap (λ ts. has (λ w. ofRule (r .type) (r .object) (r .sequence) w && meetsAll ts (w .values)) (c .rows)) tests-same
 
-    speaks-same : (type sign : ℕ) → speaks b q type sign ≡ speaks c q type sign
-    unfolding speaks
-    speaks-same type sign =
+    ruleApplies-same : (type sign : ℕ) → ruleApplies b q type sign ≡ ruleApplies c q type sign
+    unfolding ruleApplies
+    ruleApplies-same type sign =
         fun-ext (λ r.
         ap
         (λ m. eqb (r .type) type && eqb (r .object) (q .object) && eqb (r .sign) sign && covers (r .first) (r .last) (q .day) && m)
         (matches-same r))
 
-    some-speaks-same : (type sign : ℕ) → has (speaks b q type sign) (b .rules) ≡ has (speaks c q type sign) (c .rules)
-    some-speaks-same type sign = rules-has _ ∙ ap (λ p. has p (c .rules)) (speaks-same type sign)
+    some-ruleApplies-same : (type sign : ℕ) → has (ruleApplies b q type sign) (b .rules) ≡ has (ruleApplies c q type sign) (c .rules)
+    some-ruleApplies-same type sign = rules-has _ ∙ ap (λ p. has p (c .rules)) (ruleApplies-same type sign)
 
     applies-same : (processing : ℕ) → applies b q processing ≡ applies c q processing
     unfolding applies
@@ -141,7 +141,7 @@ module _ (b c : Book) (s : SameBook b c) where
         ap₂
         (λ spoken exempt.
         eqb (t .object) (q .object) && eqb (t .processing) processing && covers (t .first) (t .last) (q .day) && spoken && not exempt)
-        (some-speaks-same (t .type) positive) (some-speaks-same (t .type) negative))
+        (some-ruleApplies-same (t .type) positive) (some-ruleApplies-same (t .type) negative))
 
     named-same : (processing : ℕ) → named b q processing ≡ named c q processing
     unfolding named
@@ -152,18 +152,18 @@ module _ (b c : Book) (s : SameBook b c) where
     deciding-same : (type : ℕ) → deciding b q type ≡ deciding c q type
     unfolding deciding
     deciding-same type =
-        same-least (λ r. r .sequence) (speaks b q type positive) (b .rules) (c .rules) (s .rules)
-        ∙ ap (λ p. least (λ r. r .sequence) p (c .rules)) (speaks-same type positive)
+        same-least (λ r. r .sequence) (ruleApplies b q type positive) (b .rules) (c .rules) (s .rules)
+        ∙ ap (λ p. least (λ r. r .sequence) p (c .rules)) (ruleApplies-same type positive)
 
     decided-same : (type : ℕ) → decided b q type ≡ decided c q type
     unfolding decided
     decided-same zero = refl
     decided-same (suc type) = rw (deciding-same (suc type))
 
-    verdict-same : (type hold wish : ℕ) → verdict b q type hold wish ≡ verdict c q type hold wish
+    verdict-same : (type validating holding : ℕ) → verdict b q type validating holding ≡ verdict c q type validating holding
     unfolding verdict
-    verdict-same zero hold wish = rw (decided-same hold, decided-same wish)
-    verdict-same (suc type) hold wish = rw (decided-same (suc type))
+    verdict-same zero validating holding = rw (decided-same validating, decided-same holding)
+    verdict-same (suc type) validating holding = rw (decided-same (suc type))
 
     pub judged-same : judged b q ≡ judged c q
     unfolding judged

@@ -10,7 +10,7 @@ use lib.ListN.{length, getD}
 use borrow.Author.Tests.{eqb-true, eq-eqb, leb-true, le-leb, ltb-false}
 use Rattle.tables.specs.Count.{every}
 use Rattle.tables.proofs.Counts.{cases, both, neither, and-r}
-use Rattle.meaning.specs.Text.{same, placed, word, decimal}
+use Rattle.meaning.specs.Text.{same, wordPlace, word, decimal}
 use Rattle.meaning.specs.Fields.{within, isCapital, wellMade, fields}
 use Rattle.meaning.specs.Forms.{Form, upTo, code, day, letters, oneOf, optional, isNumber, isCode, isDay, isWord, given, read, holds, holdsAll, letterOf, formsOf, Letter, letterT, letterE, letterR, letterO, letterD, letterM, letterN, letterA, letterZ, letterQ}
 use Rattle.meaning.specs.Reading.{wrong, together, readAll, refused, asks, byNumbers, byLetter, byFields, reading}
@@ -37,9 +37,9 @@ word-all (c ∷ cs) j n e h =
     let z : j + suc (length cs) ≡ suc j + length cs = omega arith in
     rw z (word-all cs (suc j) (256 * n + c) (b .1) (word-more j n c (b .0) h))
 
-placed-low : (f : List ℕ) (ws : List (List ℕ)) → 1 ≤ placed f ws
-placed-low f [] = omega arith
-placed-low f (w ∷ ws) = cases (same f w) (λ e. rw e (omega arith)) (λ e. rw e (omega arith))
+word-place-low : (f : List ℕ) (ws : List (List ℕ)) → 1 ≤ wordPlace f ws
+word-place-low f [] = omega arith
+word-place-low f (w ∷ ws) = cases (same f w) (λ e. rw e (omega arith)) (λ e. rw e (omega arith))
 
 or-l : (s t : Bool) → s ≡ true → (s || t) ≡ true
 or-l s t e = rw e
@@ -61,8 +61,8 @@ read-holds (letters k) f n e =
     let z : 0 + length f ≡ length f = omega arith in
     rw (← (g .1), ← (eqb-true (length f) k (b .0))) (rw z at (word-all f 0 0 (b .1) refl))
 read-holds (oneOf ws) f n e =
-    let g = given-some (leb (placed f ws) (length ws)) (placed f ws) n e in
-    rw (← (g .1), le-leb 1 (placed f ws) (placed-low f ws)) (g .0)
+    let g = given-some (leb (wordPlace f ws) (length ws)) (wordPlace f ws) n e in
+    rw (← (g .1), le-leb 1 (wordPlace f ws) (word-place-low f ws)) (g .0)
 read-holds (optional φ) f n e =
     cases (eqb (length f) 0)
     (λ z. or-l (eqb n 0) (holds φ n) (eq-eqb n 0 (sym (given-some true 0 n (rw z at e) .1))))

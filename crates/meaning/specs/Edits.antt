@@ -31,8 +31,8 @@ abbrev pub periodUntil : ℕ → Period → Period
 periodUntil last p = record { kind = p .kind; number = p .number; code = p .code; first = p .first; last = last }
 
 -- the record with another sequence
-abbrev pub ruleAt : ℕ → Rule → Rule
-ruleAt sequence r = record {
+abbrev pub ruleMoved : ℕ → Rule → Rule
+ruleMoved sequence r = record {
   type = r .type;
   object = r .object;
   sequence = sequence;
@@ -42,8 +42,8 @@ ruleAt sequence r = record {
   last = r .last;
 }
 
-abbrev pub rowAt : ℕ → Row → Row
-rowAt sequence w = record { type = w .type; object = w .object; sequence = sequence; values = w .values }
+abbrev pub rowMoved : ℕ → Row → Row
+rowMoved sequence w = record { type = w .type; object = w .object; sequence = sequence; values = w .values }
 
 -- the book with another list
 abbrev pub withTypes : List TypeRecord → Book → Book
@@ -66,8 +66,8 @@ edited b (addType day t) = withTypes (t ∷ b .types) b
 edited b (endType day type object last) = withTypes (change (isType type object) (typeUntil last) (b .types)) b
 edited b (addRule day r) = withRules (r ∷ b .rules) b
 edited b (reorder type object sequence new) =
-    withRows (change (ofRule type object sequence) (rowAt new) (b .rows))
-    (withRules (change (isRule type object sequence) (ruleAt new) (b .rules)) b)
+    withRows (change (ofRule type object sequence) (rowMoved new) (b .rows))
+    (withRules (change (isRule type object sequence) (ruleMoved new) (b .rules)) b)
 edited b (deleteRule type object sequence) = withRules (without (isRule type object sequence) (b .rules)) b
 edited b (addRow w) = withRows (w ∷ b .rows) b
 edited b (deleteRow w) = withRows (without (isRow w) (b .rows)) b

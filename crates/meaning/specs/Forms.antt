@@ -6,7 +6,7 @@ use mathlib.Core.Option.{Option, some, none}
 use lib.Dec.{leb, ltb, eqb}
 use lib.ListN.{length, getD}
 use Rattle.tables.specs.Count.{every}
-use Rattle.meaning.specs.Text.{bytes, word, decimal, placed, place}
+use Rattle.meaning.specs.Text.{bytes, word, decimal, wordPlace, place}
 use Rattle.meaning.specs.Fields.{within, isDigit, isCapital}
 
 -- ---- the forms of a field
@@ -69,7 +69,7 @@ read (upTo n) f = numbered (within 1 n) f
 read code f = numbered isCode f
 read day f = given (eqb (length f) 8 && isNumber f && isDay (decimal f)) (decimal f)
 read (letters n) f = given (eqb (length f) n && every isCapital f) (word f)
-read (oneOf ws) f = given (leb (placed f ws) (length ws)) (placed f ws)
+read (oneOf ws) f = given (leb (wordPlace f ws) (length ws)) (wordPlace f ws)
 read (optional φ) f = cond (eqb (length f) 0) (some 0) (read φ f)
 
 -- the numbers that fields of that form give: the range of the form
@@ -159,6 +159,19 @@ tenValues =
 
 pub data Letter : Type 0 where
   letterT letterE letterR letterO letterD letterM letterN letterA letterZ letterQ : Letter
+
+-- the letter as it stands in a line
+abbrev pub letterText : Letter → List ℕ
+letterText letterT = bytes "T"
+letterText letterE = bytes "E"
+letterText letterR = bytes "R"
+letterText letterO = bytes "O"
+letterText letterD = bytes "D"
+letterText letterM = bytes "M"
+letterText letterN = bytes "N"
+letterText letterA = bytes "A"
+letterText letterZ = bytes "Z"
+letterText letterQ = bytes "Q"
 
 -- the letters in the table's order
 abbrev pub letterAt : ℕ → Option Letter

@@ -42,16 +42,16 @@ nobody = by 0 0
 
 module _ (b : Book) (q : Question) where
   -- a period with exactly that code covers the day for that party, account or security
-  unfoldable pub bears : ℕ → ℕ → ℕ → Bool
+  unfoldable pub hasCode : ℕ → ℕ → ℕ → Bool
   unfolding has
-  bears kind number code =
+  hasCode kind number code =
       has
       (λ p. eqb (p .number) number && eqb (p .kind) kind && eqb (p .code) code && covers (p .first) (p .last) (q .day))
       (b .periods)
 
   -- which values of criteria 0 to 9 the question meets; an empty field is 0 and meets no filled value
   unfoldable pub tests : List (ℕ → Bool)
-  unfolding bears
+  unfolding hasCode
   tests =
       eqb (q .partyType)
       ∷ eqb (q .movement)
@@ -59,9 +59,9 @@ module _ (b : Book) (q : Question) where
       ∷ eqb (q .transaction)
       ∷ eqb (q .security)
       ∷ eqb (q .account)
-      ∷ bears party (q .party)
-      ∷ bears account (q .account)
-      ∷ bears security (q .security)
+      ∷ hasCode party (q .party)
+      ∷ hasCode account (q .account)
+      ∷ hasCode security (q .security)
       ∷ eqb (q .currency)
       ∷ []
 
@@ -71,18 +71,18 @@ module _ (b : Book) (q : Question) where
   matches r = has (λ w. ofRule (r .type) (r .object) (r .sequence) w && meetsAll tests (w .values)) (b .rows)
 
   -- a current rule of that type and sign that matches
-  unfoldable pub speaks : ℕ → ℕ → Rule → Bool
+  unfoldable pub ruleApplies : ℕ → ℕ → Rule → Bool
   unfolding matches
-  speaks type sign r =
+  ruleApplies type sign r =
       eqb (r .type) type && eqb (r .object) (q .object) && eqb (r .sign) sign && covers (r .first) (r .last) (q .day)
       && matches r
 
   -- a current type of that processing, of which a positive rule matches and no negative one does
   unfoldable pub applies : ℕ → TypeRecord → Bool
-  unfolding has speaks
+  unfolding has ruleApplies
   applies processing t =
       eqb (t .object) (q .object) && eqb (t .processing) processing && covers (t .first) (t .last) (q .day)
-      && has (speaks (t .type) positive) (b .rules) && not (has (speaks (t .type) negative) (b .rules))
+      && has (ruleApplies (t .type) positive) (b .rules) && not (has (ruleApplies (t .type) negative) (b .rules))
 
   -- the lowest type of that processing that applies; 0 where none does
   unfoldable pub named : ℕ → ℕ
@@ -91,8 +91,8 @@ module _ (b : Book) (q : Question) where
 
   -- the first positive rule of that type, in rising sequence, that matches; 0 where none does
   unfoldable pub deciding : ℕ → ℕ
-  unfolding speaks least
-  deciding type = least (λ r. r .sequence) (speaks type positive) (b .rules)
+  unfolding ruleApplies least
+  deciding type = least (λ r. r .sequence) (ruleApplies type positive) (b .rules)
 
   -- the type, if any, with its deciding rule
   unfoldable pub decided : ℕ → Deciding
@@ -104,9 +104,9 @@ module _ (b : Book) (q : Question) where
   -- accepted one may carry both
   unfoldable pub verdict : ℕ → ℕ → ℕ → Verdict
   unfolding decided
-  verdict zero hold wish =
-      record { rejected = false; rejection = nobody; validation = decided hold; party = decided wish }
-  verdict (suc type) hold wish =
+  verdict zero validating holding =
+      record { rejected = false; rejection = nobody; validation = decided validating; party = decided holding }
+  verdict (suc type) validating holding =
       record { rejected = true; rejection = decided (suc type); validation = nobody; party = nobody }
 
   -- rejection comes first, then CSD validation hold, then party hold

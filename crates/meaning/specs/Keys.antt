@@ -1,8 +1,9 @@
 -- How a record is known (document 01, 'Records'). Assumes nothing.
 use Prim.Native.Nat.{ℕ, zero, suc, _+_, _*_, _/_}
-use mathlib.Core.Bool.{Bool, true, false, _&&_}
+use mathlib.Core.Bool.{Bool, _&&_}
 use mathlib.Core.List.{List, [], _∷_}
 use lib.Dec.{leb, eqb}
+use Rattle.meaning.specs.Text.{same}
 use Rattle.meaning.specs.Records.{TypeRecord, Rule, Row, Period}
 
 -- a type is known by type and object
@@ -17,16 +18,10 @@ isRule type object sequence r = eqb (r .sequence) sequence && eqb (r .type) type
 unfoldable pub ofRule : ℕ → ℕ → ℕ → Row → Bool
 ofRule type object sequence w = eqb (w .sequence) sequence && eqb (w .type) type && eqb (w .object) object
 
-abbrev pub sameNumbers : List ℕ → List ℕ → Bool
-sameNumbers [] [] = true
-sameNumbers [] (y ∷ ys) = false
-sameNumbers (x ∷ xs) [] = false
-sameNumbers (x ∷ xs) (y ∷ ys) = eqb x y && sameNumbers xs ys
-
 -- a row by its rule and its ten values
 unfoldable pub isRow : Row → Row → Bool
 unfolding ofRule
-isRow a w = ofRule (a .type) (a .object) (a .sequence) w && sameNumbers (a .values) (w .values)
+isRow a w = ofRule (a .type) (a .object) (a .sequence) w && same (a .values) (w .values)
 
 -- a period by kind, number, code and first day
 unfoldable pub isPeriod : ℕ → ℕ → ℕ → ℕ → Period → Bool

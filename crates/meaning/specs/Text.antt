@@ -11,7 +11,7 @@ abbrev pub bytes : String → List ℕ
 bytes no-text = []
 bytes (_then_ c s) = code c ∷ bytes s
 
--- whether two texts are the same
+-- whether two lists are the same: texts, or the values of rows
 abbrev pub same : List ℕ → List ℕ → Bool
 same [] [] = true
 same [] (d ∷ ds) = false
@@ -19,9 +19,9 @@ same (c ∷ cs) [] = false
 same (c ∷ cs) (d ∷ ds) = eqb c d && same cs ds
 
 -- a word's place in a list, from 1; one more than the list has where it is not there
-abbrev pub placed : List ℕ → List (List ℕ) → ℕ
-placed f [] = 1
-placed f (w ∷ ws) = cond (same f w) 1 (suc (placed f ws))
+abbrev pub wordPlace : List ℕ → List (List ℕ) → ℕ
+wordPlace f [] = 1
+wordPlace f (w ∷ ws) = cond (same f w) 1 (suc (wordPlace f ws))
 
 -- how many bytes stand before the first c
 abbrev pub place : ℕ → List ℕ → ℕ

@@ -2,7 +2,7 @@
 use Prim.Native.Nat.{ℕ, zero, suc, _-_}
 use mathlib.Core.List.{List, [], _∷_, _++_}
 use lib.ListN.{getD}
-use Rattle.meaning.specs.Text.{bytes, numeral, spelled}
+use Rattle.meaning.specs.Text.{numeral, spelled}
 use Rattle.meaning.specs.Forms.{
   Form,
   upTo,
@@ -12,17 +12,8 @@ use Rattle.meaning.specs.Forms.{
   oneOf,
   optional,
   formsOf,
+  letterText,
   Letter,
-  letterT,
-  letterE,
-  letterR,
-  letterO,
-  letterD,
-  letterM,
-  letterN,
-  letterA,
-  letterZ,
-  letterQ,
 }
 
 -- the field of that form that gives the number
@@ -35,18 +26,6 @@ write (letters k) n = spelled k n
 write (oneOf ws) n = getD ws (n - 1) []
 write (optional φ) zero = []
 write (optional φ) (suc n) = write φ (suc n)
-
-abbrev pub letterText : Letter → List ℕ
-letterText letterT = bytes "T"
-letterText letterE = bytes "E"
-letterText letterR = bytes "R"
-letterText letterO = bytes "O"
-letterText letterD = bytes "D"
-letterText letterM = bytes "M"
-letterText letterN = bytes "N"
-letterText letterA = bytes "A"
-letterText letterZ = bytes "Z"
-letterText letterQ = bytes "Q"
 
 -- each field behind a comma
 unfoldable pub writeAll : List Form → List ℕ → List ℕ

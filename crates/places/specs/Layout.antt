@@ -15,6 +15,9 @@ bookSize = 51200
 
 -- ---- 128 places of 12 bytes, from 0
 
+abbrev pub typePlaces : ℕ
+typePlaces = 128
+
 abbrev pub typeStart : ℕ → ℕ
 typeStart i = i * 12
 
@@ -46,6 +49,9 @@ abbrev pub zeroType : RestrictionType
 zeroType = record { csd = 0; number = 0; object = 0; processing = 0; first = 0; last = 0 }
 
 -- ---- 512 places of 15 bytes, from 1536
+
+abbrev pub rulePlaces : ℕ
+rulePlaces = 512
 
 abbrev pub ruleStart : ℕ → ℕ
 ruleStart i = 1536 + i * 15
@@ -81,6 +87,9 @@ zeroRule = record { csd = 0; number = 0; object = 0; sequence = 0; sign = 0; cri
 
 -- ---- 1024 places of 26 bytes, from 9216
 
+abbrev pub rowPlaces : ℕ
+rowPlaces = 1024
+
 abbrev pub rowStart : ℕ → ℕ
 rowStart i = 9216 + i * 26
 
@@ -112,6 +121,9 @@ abbrev pub zeroRow : Row
 zeroRow = record { csd = 0; number = 0; object = 0; sequence = 0; values = replicate 10 0 }
 
 -- ---- 1024 places of 15 bytes, from 35840
+
+abbrev pub periodPlaces : ℕ
+periodPlaces = 1024
 
 abbrev pub periodStart : ℕ → ℕ
 periodStart i = 35840 + i * 15

@@ -29,37 +29,37 @@ use Rattle.edits.specs.Asked.{byte, commandBy, orQuestion, commandIn}
 use Rattle.edits.specs.Edit.{editIn}
 use Rattle.edits.proofs.AskedRight.{asked-right}
 use Rattle.edits.proofs.Stay.{sound-lone, edit-left, edit-sound}
-use Rattle.matching.specs.Rows.{asked}
+use Rattle.matching.specs.MatchedRows.{asked}
 use Rattle.judge.specs.Stages.{judgedBy}
 use Rattle.matching.specs.declared.Question.{Question}
-use Rattle.judge.proofs.Right.{judged-right}
+use Rattle.judge.proofs.VerdictRight.{judged-right}
 use Rattle.line.specs.declared.reading.Line.{Line}
 use Rattle.line.specs.Line.{lineOf}
 use mathlib.Core.Option.{some, none}
 use Rattle.line.specs.Table.{letterList, letter, placeOf}
 use Rattle.line.proofs.Readings.{place-letter}
 use Rattle.line.proofs.Padding.{padded-at}
-use Rattle.line.proofs.Callers as Read
+use Rattle.line.proofs.LineCallers as Read
 use Rattle.precheck.specs.Promise.{answerIn, loneAfter, Submitted}
-use Rattle.precheck.specs.Taking.{questionFrom, refusalOf, answerOf, bytesOf, Took, answerRead, bytesRead, answerBy, bytesBy, Answers}
+use Rattle.precheck.specs.Taking.{questionFrom, refusalOf, answerOf, bytesAfter, Took, answerRead, bytesRead, answerBy, bytesBy, Answers}
 
 -- ---- the returns of take
 
 module _ (b : List ℕ) (l : Line) where
   pub took-question : (q : Question) (v : _) (x : Answer) → l .letter ≡ 9 → x ≡ Judged v → v ≡ judgedBy b q → q ≡ questionFrom (l .values) → Took b l x b
-  unfolding answerOf bytesOf
+  unfolding answerOf bytesAfter
   took-question q v x e f g h =
       record { answered = rw (eq-eqb (l .letter) 9 e) (f ∙ ap Judged (g ∙ ap (judgedBy b) h)); bytes = rw (eq-eqb (l .letter) 9 e) }
 
   pub took-refusal : (n : ℕ) (x : Answer) → (l .letter ≡ 9 → ⊥) → (n ≡ 0 → ⊥) → x ≡ Refused n → n ≡ refusal (loneBook (byte (l .values) 0) b) (commandIn (l .letter) (l .values)) → Took b l x b
-  unfolding answerOf bytesOf refusalOf
+  unfolding answerOf bytesAfter refusalOf
   took-refusal n x e f g h =
       let z = ne-eqb (l .letter) 9 e in
       let r : eqb (refusal (loneBook (byte (l .values) 0) b) (commandIn (l .letter) (l .values))) 0 ≡ false = ap (λ k. eqb k 0) (sym h) ∙ ne-eqb n 0 f in
       record { answered = rw (z, r) (g ∙ ap Refused h); bytes = rw (z, r) }
 
   pub took-edit : (b′ : List ℕ) (n : ℕ) (x : Answer) → (l .letter ≡ 9 → ⊥) → n ≡ 0 → x ≡ Taken → n ≡ refusal (loneBook (byte (l .values) 0) b) (commandIn (l .letter) (l .values)) → b′ ≡ editIn b (byte (l .values) 0) (commandIn (l .letter) (l .values)) → Took b l x b′
-  unfolding answerOf bytesOf refusalOf
+  unfolding answerOf bytesAfter refusalOf
   took-edit b′ n x e f g h k =
       let z = ne-eqb (l .letter) 9 e in
       let r : eqb (refusal (loneBook (byte (l .values) 0) b) (commandIn (l .letter) (l .values))) 0 ≡ true = eq-eqb _ 0 (sym h ∙ f) in
@@ -244,7 +244,7 @@ module _ (b line : List ℕ) (l : Line) (s : sound b ≡ true) (a : Read.Asked l
 
   -- THE PROMISE for a line that is read, from what `take` does.
   pub submitted-read : (x : Answer) (b′ : List ℕ) → Took b l x b′ → Submitted b line x b′
-  unfolding answerOf bytesOf refusalOf
+  unfolding answerOf bytesAfter refusalOf
   submitted-read x b′ t =
       let m = loneBook (byte v 0) b in
       let k = commandIn (l .letter) v in
@@ -309,6 +309,6 @@ keeps-promise b line =
     cases (sound b)
     (λ s.
     cases-eq (l .refusal) 0
-    (λ e. rw (s, eq-eqb (l .refusal) 0 e) (submitted b (bytesOf b l) line true l (answerOf b l) (sym s) refl refl e (record { answered = refl; bytes = refl })))
+    (λ e. rw (s, eq-eqb (l .refusal) 0 e) (submitted b (bytesAfter b l) line true l (answerOf b l) (sym s) refl refl e (record { answered = refl; bytes = refl })))
     (λ e. rw (s, ne-eqb (l .refusal) 0 e) (submitted-unread b line true l (Refused (l .refusal)) (sym s) refl refl e refl)))
     (λ s. rw s (submitted-unsound b line false (Refused 1) (sym s) refl refl))

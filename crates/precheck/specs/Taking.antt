@@ -47,14 +47,14 @@ answerOf b l =
     cond (eqb (l .letter) 9) (Judged (judgedBy b (questionFrom (l .values))))
     (cond (eqb (refusalOf b l) 0) Taken (Refused (refusalOf b l)))
 
-unfoldable pub bytesOf : List ℕ → Line → List ℕ
-bytesOf b l =
+unfoldable pub bytesAfter : List ℕ → Line → List ℕ
+bytesAfter b l =
     cond (eqb (l .letter) 9) b
     (cond (eqb (refusalOf b l) 0) (editIn b (byte (l .values) 0) (commandIn (l .letter) (l .values))) b)
 
 pub record Took (before : List ℕ) (l : Line) (answer : Answer) (after : List ℕ) : Type 0 where
   pub answered : answer ≡ answerOf before l
-  pub bytes : after ≡ bytesOf before l
+  pub bytes : after ≡ bytesAfter before l
 
 -- ---- any line
 
@@ -63,7 +63,7 @@ unfoldable pub answerRead : List ℕ → Line → Answer
 answerRead b l = cond (eqb (l .refusal) 0) (answerOf b l) (Refused (l .refusal))
 
 unfoldable pub bytesRead : List ℕ → Line → List ℕ
-bytesRead b l = cond (eqb (l .refusal) 0) (bytesOf b l) b
+bytesRead b l = cond (eqb (l .refusal) 0) (bytesAfter b l) b
 
 -- over a book that is sound, or is not
 unfoldable pub answerBy : Bool → List ℕ → List ℕ → Answer

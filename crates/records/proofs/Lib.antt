@@ -1,4 +1,4 @@
-pub mod Returns
+pub mod RecordReturns
 pub mod Ten
 pub mod Filled
 pub mod Meets

@@ -4,7 +4,8 @@ use mathlib.Core.Path.{_≡_, sym, _∙_}
 use mathlib.Core.Bool.{Bool, true, false, not}
 use lib.Dec.{eqb}
 use Rattle.meaning.specs.Records as M
-use Rattle.meaning.specs.Keys.{isRule, isRow, sameNumbers, filled}
+use Rattle.meaning.specs.Keys.{isRule, isRow, filled}
+use Rattle.meaning.specs.Text.{same}
 use Rattle.meaning.specs.Sound.{fillsRule}
 use Rattle.meaning.specs.Refusals.{otherCriteria}
 use Rattle.records.specs.Asks.{typeMeets, ruleMeets, rowMeets, periodMeets}
@@ -67,7 +68,7 @@ pub other-no : (w : M.Row) (t : M.Rule) (k : Bool) → k ≡ isRule (w .type) (w
 unfolding ruleMeets otherCriteria
 other-no w t k e f = rw (sym e ∙ f)
 
-pub same-yes : (w t : M.Row) (k r : Bool) → k ≡ rowMeets Rows.OfRule w t → k ≡ true → r ≡ sameNumbers (w .values) (t .values) → r ≡ rowMeets Rows.Same w t
+pub same-yes : (w t : M.Row) (k r : Bool) → k ≡ rowMeets Rows.OfRule w t → k ≡ true → r ≡ same (w .values) (t .values) → r ≡ rowMeets Rows.Same w t
 unfolding rowMeets isRow
 same-yes w t k r e f g = rw (sym e ∙ f) g
 

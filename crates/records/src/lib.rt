@@ -5,7 +5,8 @@ ghost use Prim.Native.Nat.{_+_, _≤_};
 ghost use lib.Dec.{eqb, ltb};
 ghost use Rattle.tables.specs.Count.{bit, allBelow};
 ghost use Rattle.meaning.specs.Fields.{within};
-ghost use Rattle.meaning.specs.Keys.{sameNumbers, filled, isRule};
+ghost use Rattle.meaning.specs.Keys.{filled, isRule};
+ghost use Rattle.meaning.specs.Text.{same};
 ghost use Rattle.meaning.specs.Refusals.{outside};
 ghost use Rattle.records.specs.Said.{typeOf, ruleOf, rowOf, periodOf};
 ghost use Rattle.records.specs.Criteria.{belongs, agrees, filledCount};
@@ -231,7 +232,7 @@ fn same_five(
 }
 
 fn same_values(a: [u32; 10], b: [u32; 10]) -> bool
-    ensures { λ r. ⌜ r ≡ sameNumbers a b ⌝ }
+    ensures { λ r. ⌜ r ≡ same a b ⌝ }
 {
     let rest = same_five(
         a[5],

@@ -12,7 +12,7 @@ use Rattle.tables.specs.Below.{leastBelow}
 use Rattle.tables.proofs.Below.{least-more, lesser-only, lesser-high}
 use Rattle.tables.proofs.Counts.{cases}
 use Rattle.rules.specs.Search.{noRule, mayDecide, firstPositive, sequenceOf}
-use Rattle.rules.specs.declared.Judged.{Judged}
+use Rattle.rules.specs.declared.ListedRule.{ListedRule}
 use Rattle.rules.proofs.Turns.{hits, misses, ended}
 
 -- One place more: l is the least sequence before place i, s what is found from it on, s′ what is found after it.
@@ -27,7 +27,7 @@ whole zero = refl
 whole (suc n) = rw (ne-eqb (suc n) 0 (λ z. omega arith))
 
 -- p says of each sequence from 1 whether the rule there may decide. None may that stands at place 0: no rule has sequence 0.
-module _ (t : List Judged) (p : ℕ → Bool) (none : mayDecide (getD t 0 noRule) ≡ false) (may : (k : ℕ) → 1 ≤ k → k < length t → mayDecide (getD t k noRule) ≡ p k) (named : (k : ℕ) → 1 ≤ k → k < length t → getD t k noRule .sequence ≡ k) where
+module _ (t : List ListedRule) (p : ℕ → Bool) (none : mayDecide (getD t 0 noRule) ≡ false) (may : (k : ℕ) → 1 ≤ k → k < length t → mayDecide (getD t k noRule) ≡ p k) (named : (k : ℕ) → 1 ≤ k → k < length t → getD t k noRule .sequence ≡ k) where
   least : ℕ → ℕ
   least n = leastBelow (λ s. cond (p s) s 0) n
 

@@ -11,20 +11,20 @@ use lib.Seq.{drop-cons}
 use borrow.Author.Tests.{eq-eqb, ne-eqb}
 use Rattle.meaning.specs.Records.{positive}
 use Rattle.rules.specs.Search.{noRule, mayDecide, firstPositive}
-use Rattle.rules.specs.declared.Judged.{Judged}
+use Rattle.rules.specs.declared.ListedRule.{ListedRule}
 use Rattle.rules.specs.declared.First.the-variants.{At, Nothing}
 
 -- ---- one rule, by its sign
 
-pub decides : (r : Judged) → r .sign ≡ positive → r .matches ≡ mayDecide r
+pub decides : (r : ListedRule) → r .sign ≡ positive → r .matches ≡ mayDecide r
 decides r e = rw (eq-eqb (r .sign) positive e)
 
-pub passes : (r : Judged) → (r .sign ≡ positive → ⊥) → false ≡ mayDecide r
+pub passes : (r : ListedRule) → (r .sign ≡ positive → ⊥) → false ≡ mayDecide r
 passes r d = rw (ne-eqb (r .sign) positive d)
 
 -- ---- the search, from place i on
 
-module _ (ys : List Judged) (i : ℕ) (l : i < length ys) where
+module _ (ys : List ListedRule) (i : ℕ) (l : i < length ys) where
   one : firstPositive (drop i ys) ≡ cond (mayDecide (getD ys i noRule)) (At (getD ys i noRule .sequence)) (firstPositive (drop (i + 1) ys))
   unfolding firstPositive
   one = ap firstPositive (drop-cons ys i noRule l) ∙ ap (λ (k : ℕ). cond (mayDecide (getD ys i noRule)) (At (getD ys i noRule .sequence)) (firstPositive (drop k ys))) (sym (add-one i))
@@ -35,7 +35,7 @@ module _ (ys : List Judged) (i : ℕ) (l : i < length ys) where
   pub misses : mayDecide (getD ys i noRule) ≡ false → firstPositive (drop (i + 1) ys) ≡ firstPositive (drop i ys)
   misses h = sym (one ∙ ap (λ (t : Bool). cond t (At (getD ys i noRule .sequence)) (firstPositive (drop (i + 1) ys))) h)
 
-pub ended : (ys : List Judged) (i : ℕ) → length ys ≤ i → Nothing ≡ firstPositive (drop i ys)
+pub ended : (ys : List ListedRule) (i : ℕ) → length ys ≤ i → Nothing ≡ firstPositive (drop i ys)
 unfolding firstPositive
 ended ys i h = sym (ap firstPositive (drop-of-length-le ys h))
 

@@ -4,7 +4,7 @@ ghost use mathlib.Core.Path.{_≡_};
 ghost use Rattle.rules.specs.Search.{mayDecide, firstPositive};
 
 // A rule of a type, as judged: whether it matches the question. Sign is 1 for positive, 2 for negative.
-pub struct Judged {
+pub struct ListedRule {
     pub sequence: u8,
     pub sign: u8,
     pub matches: bool,
@@ -17,14 +17,14 @@ pub enum First {
 }
 
 // A positive rule that matches decides, unless one before it does.
-fn may_decide(r: Judged) -> bool
+fn may_decide(r: ListedRule) -> bool
     ensures { λ b. ⌜ b ≡ mayDecide r ⌝ }
 {
     if r.sign == 1 { r.matches } else { false }
 }
 
 // The first matching positive rule, in the order of the slice.
-pub fn first_positive(rules: &[Judged]) -> First
+pub fn first_positive(rules: &[ListedRule]) -> First
     ensures { λ r. ⌜ r ≡ firstPositive (now (rules .entry)) ⌝ }
 {
     let mut i = 0;
@@ -39,7 +39,7 @@ pub fn first_positive(rules: &[Judged]) -> First
 }
 
 // The same of a type's hundred rules by sequence, for callers without a slice.
-pub fn first_of(rules: [Judged; 100]) -> First
+pub fn first_of(rules: [ListedRule; 100]) -> First
     ensures { λ r. ⌜ r ≡ firstPositive rules ⌝ }
 {
     first_positive(&rules)

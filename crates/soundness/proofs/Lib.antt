@@ -1,7 +1,7 @@
 pub mod Decided
-pub mod Types
-pub mod Rules
-pub mod Rows
-pub mod Periods
-pub mod Whole
+pub mod TypeTable
+pub mod RuleTable
+pub mod RowTable
+pub mod PeriodTable
+pub mod WholeTable
 pub mod Stages

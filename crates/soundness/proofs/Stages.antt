@@ -11,7 +11,7 @@ use Rattle.book.specs.Sound.{sound}
 use Rattle.soundness.proofs.Decided.{decided}
 use Rattle.chains.specs.Chains.{Chained, AllPassed}
 use Rattle.soundness.specs.Tables.{typeCsd, typeChain, typeRight, ruleCsd, ruleChain, ruleRight, rowCsd, rowChain, rowRight, periodRight, rulesSound, rowsSound, RulesSound}
-use Rattle.soundness.proofs.Whole.{types-whole, rules-whole, rows-whole, periods-whole}
+use Rattle.soundness.proofs.WholeTable.{types-whole, rules-whole, rows-whole, periods-whole}
 
 -- Where a stage has not failed its chains are whole.
 pub stage-chained : (csd bucket : ℕ → ℕ) (size places : ℕ) (good : ℕ → Bool) (t x : Bool) (head next : List ℕ) → AllPassed csd bucket size places good t head next → x ≡ not t → x ≡ false → Chained csd bucket size places head next places

@@ -1,7 +1,7 @@
 -- `book::count_periods` meets its contract. Assumes nothing.
 use Rattle.tables.specs.Count.{countBelow}
 use Rattle.tables.proofs.Counts.{count-none}
-use Rattle.book.proofs.Right.{period-between, period-counted, period-none-left, period-all}
+use Rattle.book.proofs.BookReturns.{period-between, period-counted, period-none-left, period-all}
 use Rattle.book.specs.Places.{periodHit}
 use Prim.Native.Nat.{_≤_, _-_}
 use mathlib.Core.Path.{_≡_, sym}

@@ -1,7 +1,7 @@
 -- `book::count_rows` meets its contract. Assumes nothing.
 use Rattle.tables.specs.Count.{countBelow}
 use Rattle.tables.proofs.Counts.{count-none}
-use Rattle.book.proofs.Right.{row-between, row-counted, row-none-left, row-all}
+use Rattle.book.proofs.BookReturns.{row-between, row-counted, row-none-left, row-all}
 use Rattle.book.specs.Places.{rowHit}
 use Rattle.records.specs.Said.{rowOf}
 use Prim.Native.Nat.{_≤_, _-_}

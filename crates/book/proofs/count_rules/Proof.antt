@@ -1,7 +1,7 @@
 -- `book::count_rules` meets its contract. Assumes nothing.
 use Rattle.tables.specs.Count.{countBelow}
 use Rattle.tables.proofs.Counts.{count-none}
-use Rattle.book.proofs.Right.{rule-between, rule-counted, rule-none-left, rule-all}
+use Rattle.book.proofs.BookReturns.{rule-between, rule-counted, rule-none-left, rule-all}
 use Rattle.book.specs.Places.{ruleHit}
 use Rattle.records.specs.Said.{rowOf}
 use Prim.Native.Nat.{_≤_, _-_}

@@ -1,7 +1,7 @@
 -- `book::count_types` meets its contract. Assumes nothing.
 use Rattle.tables.specs.Count.{countBelow}
 use Rattle.tables.proofs.Counts.{count-none}
-use Rattle.book.proofs.Right.{type-between, type-counted, type-none-left, type-all}
+use Rattle.book.proofs.BookReturns.{type-between, type-counted, type-none-left, type-all}
 use Rattle.book.specs.Places.{typeHit}
 use Prim.Native.Nat.{_≤_, _-_}
 use mathlib.Core.Path.{_≡_, sym}

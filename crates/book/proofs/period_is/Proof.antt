@@ -1,5 +1,5 @@
 -- `book::period_is` meets its contract. Assumes nothing.
-use Rattle.book.proofs.Right.{period-hit, period-miss}
+use Rattle.book.proofs.BookReturns.{period-hit, period-miss}
 use borrow.Author.Needs.{needs}
 use Rattle.book.proofs.period_is.Statement.{statement}
 use Rattle.book.proofs.period_is.Tie as tie

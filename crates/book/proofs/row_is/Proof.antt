@@ -1,5 +1,5 @@
 -- `book::row_is` meets its contract. Assumes nothing.
-use Rattle.book.proofs.Right.{row-hit, row-miss}
+use Rattle.book.proofs.BookReturns.{row-hit, row-miss}
 use borrow.Author.Needs.{needs}
 use Rattle.book.proofs.row_is.Statement.{statement}
 use Rattle.book.proofs.row_is.Tie as tie

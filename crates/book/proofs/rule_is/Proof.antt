@@ -1,5 +1,5 @@
 -- `book::rule_is` meets its contract. Assumes nothing.
-use Rattle.book.proofs.Right.{rule-hit, rule-miss}
+use Rattle.book.proofs.BookReturns.{rule-hit, rule-miss}
 use borrow.Author.Needs.{needs}
 use Rattle.book.proofs.rule_is.Statement.{statement}
 use Rattle.book.proofs.rule_is.Tie as tie

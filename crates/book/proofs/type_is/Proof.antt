@@ -1,5 +1,5 @@
 -- `book::type_is` meets its contract. Assumes nothing.
-use Rattle.book.proofs.Right.{type-hit, type-miss}
+use Rattle.book.proofs.BookReturns.{type-hit, type-miss}
 use borrow.Author.Needs.{needs}
 use Rattle.book.proofs.type_is.Statement.{statement}
 use Rattle.book.proofs.type_is.Tie as tie

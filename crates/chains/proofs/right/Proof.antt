@@ -1,5 +1,5 @@
 -- `chains::right` meets its contract. Assumes nothing.
-use Rattle.chains.proofs.Passing.{right-by}
+use Rattle.chains.proofs.ChainPassing.{right-by}
 use borrow.Author.Needs.{needs}
 use Rattle.chains.proofs.right.Statement.{statement}
 use Rattle.chains.proofs.right.Tie as tie

@@ -1,5 +1,5 @@
 -- `desk::answer_some` meets its contract. Assumes nothing.
-use Rattle.lines.proofs.Callers.{counted}
+use Rattle.lines.proofs.LinesCallers.{counted}
 use borrow.Author.Needs.{needs}
 use Rattle.desk.proofs.answer_some.Statement.{statement}
 use Rattle.desk.proofs.answer_some.Tie as tie

@@ -1,5 +1,5 @@
 -- `judge::decided` meets its contract. Assumes nothing.
-use Rattle.judge.proofs.Types.{decided-none, decided-some}
+use Rattle.judge.proofs.VerdictReturns.{decided-none, decided-some}
 use borrow.Author.Needs.{needs}
 use Rattle.judge.proofs.decided.Statement.{statement}
 use Rattle.judge.proofs.decided.Tie as tie

@@ -1,5 +1,5 @@
 -- `judge::deciding_rule` meets its contract. Assumes nothing.
-use Rattle.judge.proofs.Types.{deciding-by}
+use Rattle.judge.proofs.VerdictReturns.{deciding-by}
 use borrow.Author.Needs.{needs}
 use Rattle.judge.proofs.deciding_rule.Statement.{statement}
 use Rattle.judge.proofs.deciding_rule.Tie as tie

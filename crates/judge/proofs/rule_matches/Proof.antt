@@ -1,6 +1,6 @@
 -- `judge::rule_matches` meets its contract. Assumes nothing.
 use borrow.Author.Needs.{needs}
-use Rattle.judge.proofs.Types.{rule-by}
+use Rattle.judge.proofs.VerdictReturns.{rule-by}
 use Rattle.judge.proofs.rule_matches.Statement.{statement}
 use Rattle.judge.proofs.rule_matches.Tie as tie
 

@@ -1,5 +1,5 @@
 -- `judge::rule_of_type` meets its contract. Assumes nothing.
-use Rattle.judge.proofs.Types.{of-type-by}
+use Rattle.judge.proofs.VerdictReturns.{of-type-by}
 use borrow.Author.Needs.{needs}
 use Rattle.judge.proofs.rule_of_type.Statement.{statement}
 use Rattle.judge.proofs.rule_of_type.Tie as tie

@@ -6,10 +6,10 @@ use lib.ListN.{length}
 use Rattle.tables.specs.Keyed.{marked, Keyed}
 use Rattle.tables.proofs.Keying.{keyed-none, keyed-marks}
 use Rattle.owners.specs.Next.{nextRule}
-use Rattle.owners.proofs.Passing.{next-within}
+use Rattle.owners.proofs.NextPassing.{next-within}
 use Rattle.places.specs.Layout.{ruleAt}
 use Rattle.judge.specs.Stages.{signedKey, signKeys, ruleOfType, rulesMatched}
-use Rattle.owners.proofs.Passing.{pass-more, pass-end}
+use Rattle.owners.proofs.NextPassing.{pass-more, pass-end}
 use borrow.Author.Needs.{needs}
 use Rattle.judge.proofs.rules_matched.Statement.{statement}
 use Rattle.judge.proofs.rules_matched.Tie as tie

@@ -5,10 +5,10 @@ use native.Mathlib.Omega.{arith}
 use Rattle.tables.specs.Keyed.{marked, Keyed}
 use Rattle.tables.proofs.Keying.{keyed-none, keyed-marks}
 use Rattle.owners.specs.Next.{nextRule}
-use Rattle.owners.proofs.Passing.{next-within}
+use Rattle.owners.proofs.NextPassing.{next-within}
 use Rattle.places.specs.Layout.{ruleAt}
 use Rattle.judge.specs.Stages.{typedKey, typeKeys, ruleMatches, signsMatched}
-use Rattle.owners.proofs.Passing.{pass-more, pass-end}
+use Rattle.owners.proofs.NextPassing.{pass-more, pass-end}
 use borrow.Author.Needs.{needs}
 use Rattle.judge.proofs.signs_matched.Statement.{statement}
 use Rattle.judge.proofs.signs_matched.Tie as tie

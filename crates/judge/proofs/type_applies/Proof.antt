@@ -1,6 +1,6 @@
 -- `judge::type_applies` meets its contract. Assumes nothing.
 use borrow.Author.Needs.{needs}
-use Rattle.judge.proofs.Types.{applies-by}
+use Rattle.judge.proofs.VerdictReturns.{applies-by}
 use Rattle.judge.proofs.type_applies.Statement.{statement}
 use Rattle.judge.proofs.type_applies.Tie as tie
 

@@ -6,10 +6,10 @@ use Rattle.tables.specs.Keyed.{marked, Keyed}
 use Rattle.tables.specs.Count.{lesser}
 use Rattle.tables.proofs.Keying.{keyed-none, keyed-leasts}
 use Rattle.owners.specs.Next.{nextType}
-use Rattle.owners.proofs.Passing.{next-within}
+use Rattle.owners.proofs.NextPassing.{next-within}
 use Rattle.places.specs.Layout.{typeAt}
 use Rattle.judge.specs.Stages.{typeApplies, typesNamed}
-use Rattle.owners.proofs.Passing.{pass-more, pass-end}
+use Rattle.owners.proofs.NextPassing.{pass-more, pass-end}
 use borrow.Author.Needs.{needs}
 use Rattle.judge.proofs.types_named.Statement.{statement}
 use Rattle.judge.proofs.types_named.Tie as tie

@@ -1,6 +1,6 @@
 -- `judge::verdict` meets its contract; facts are named, so that a wrong one is refused for certain. Assumes nothing.
 use borrow.Author.Needs.{needs}
-use Rattle.judge.proofs.Types.{verdict-by}
+use Rattle.judge.proofs.VerdictReturns.{verdict-by}
 use Rattle.judge.proofs.verdict.Statement.{statement}
 use Rattle.judge.proofs.verdict.Tie as tie
 

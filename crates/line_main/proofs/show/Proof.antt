@@ -1,6 +1,6 @@
 -- `line_main::show` meets its contract.
 use native.Mathlib.Omega.{arith}
-use Rattle.line.proofs.Callers.{refusal-few}
+use Rattle.line.proofs.LineCallers.{refusal-few}
 use borrow.Author.Needs.{needs}
 use Rattle.line_main.proofs.show.Statement.{statement}
 use Rattle.line_main.proofs.show.Tie as tie

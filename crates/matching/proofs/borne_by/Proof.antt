@@ -1,6 +1,6 @@
 -- `matching::borne_by` meets its contract. Assumes nothing.
 use borrow.Author.Needs.{needs}
-use Rattle.matching.specs.Rows.{borneBy}
+use Rattle.matching.specs.MatchedRows.{borneBy}
 use Rattle.matching.proofs.borne_by.Statement.{statement}
 use Rattle.matching.proofs.borne_by.Tie as tie
 

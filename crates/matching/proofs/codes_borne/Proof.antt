@@ -7,12 +7,12 @@ use borrow.Author.Needs.{needs}
 use Rattle.tables.specs.Keyed.{Keyed}
 use Rattle.tables.proofs.Keying.{keyed-none}
 use Rattle.owners.specs.Next.{nextPeriod}
-use Rattle.owners.proofs.Passing.{next-within}
+use Rattle.owners.proofs.NextPassing.{next-within}
 use Rattle.places.specs.Layout.{periodAt}
 use Rattle.marks.specs.Flags.{withFlag, afterFlag}
-use Rattle.matching.specs.Rows.{periodKey, codeKeys, codeEntries, borneBy, codesBorne}
+use Rattle.matching.specs.MatchedRows.{periodKey, codeKeys, codeEntries, borneBy, codesBorne}
 use Rattle.marks.proofs.Flagging.{keyed-flags}
-use Rattle.owners.proofs.Passing.{pass-more, pass-end}
+use Rattle.owners.proofs.NextPassing.{pass-more, pass-end}
 use Rattle.matching.proofs.codes_borne.Statement.{statement}
 use Rattle.matching.proofs.codes_borne.Tie as tie
 

@@ -1,7 +1,7 @@
 -- `matching::criterion_met` meets its contract. Assumes nothing.
 use borrow.Author.Needs.{needs}
-use Rattle.matching.specs.Rows.{testAt}
-use Rattle.matching.proofs.Rows.{arm, arm-flagged, arm-none}
+use Rattle.matching.specs.MatchedRows.{testAt}
+use Rattle.matching.proofs.RowValues.{arm, arm-flagged, arm-none}
 use Rattle.matching.proofs.criterion_met.Statement.{statement}
 use Rattle.matching.proofs.criterion_met.Tie as tie
 

@@ -1,6 +1,6 @@
 -- `matching::mark_rules` meets its contract. Assumes nothing.
 use borrow.Author.Needs.{needs}
-use Rattle.matching.proofs.Rows.{by-codes, cleared}
+use Rattle.matching.proofs.RowValues.{by-codes, cleared}
 use Rattle.matching.proofs.mark_rules.Statement.{statement}
 use Rattle.matching.proofs.mark_rules.Tie as tie
 

@@ -1,6 +1,6 @@
 -- `matching::row_matches` meets its contract. Assumes nothing.
 use borrow.Author.Needs.{needs}
-use Rattle.matching.specs.Rows.{rowMatches}
+use Rattle.matching.specs.MatchedRows.{rowMatches}
 use Rattle.matching.proofs.row_matches.Statement.{statement}
 use Rattle.matching.proofs.row_matches.Tie as tie
 

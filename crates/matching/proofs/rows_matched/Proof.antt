@@ -6,11 +6,11 @@ use lib.ListN.{length}
 use Rattle.tables.specs.Keyed.{Keyed}
 use Rattle.tables.proofs.Keying.{keyed-none}
 use Rattle.owners.specs.Next.{nextRow}
-use Rattle.owners.proofs.Passing.{next-within}
+use Rattle.owners.proofs.NextPassing.{next-within}
 use Rattle.places.specs.Layout.{rowAt}
 use Rattle.marks.specs.Flags.{flagged}
-use Rattle.matching.specs.Rows.{rowKey, rowMatches}
-use Rattle.owners.proofs.Passing.{pass-more, pass-end}
+use Rattle.matching.specs.MatchedRows.{rowKey, rowMatches}
+use Rattle.owners.proofs.NextPassing.{pass-more, pass-end}
 use borrow.Author.Needs.{needs}
 use Rattle.matching.proofs.rows_matched.Statement.{statement}
 use Rattle.matching.proofs.rows_matched.Tie as tie

@@ -1,6 +1,6 @@
 -- `matching::sought` meets its contract. Assumes nothing.
 use borrow.Author.Needs.{needs}
-use Rattle.matching.specs.Rows.{sought}
+use Rattle.matching.specs.MatchedRows.{sought}
 use Rattle.matching.proofs.sought.Statement.{statement}
 use Rattle.matching.proofs.sought.Tie as tie
 

@@ -1,6 +1,6 @@
 -- `matching::value_met` meets its contract. Assumes nothing.
 use borrow.Author.Needs.{needs}
-use Rattle.matching.proofs.Rows.{met-by}
+use Rattle.matching.proofs.RowValues.{met-by}
 use Rattle.matching.proofs.value_met.Statement.{statement}
 use Rattle.matching.proofs.value_met.Tie as tie
 

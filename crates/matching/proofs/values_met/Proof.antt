@@ -5,8 +5,8 @@ use mathlib.Core.Bool.{true}
 use native.Mathlib.Omega.{arith}
 use borrow.Author.Needs.{needs}
 use Rattle.marks.specs.Flags.{flagged}
-use Rattle.matching.specs.Rows.{tests}
-use Rattle.matching.proofs.Rows.{metBelow, met-none, met-more, met-ended, met-all}
+use Rattle.matching.specs.MatchedRows.{tests}
+use Rattle.matching.proofs.RowValues.{metBelow, met-none, met-more, met-ended, met-all}
 use Rattle.matching.proofs.values_met.Statement.{statement}
 use Rattle.matching.proofs.values_met.Tie as tie
 

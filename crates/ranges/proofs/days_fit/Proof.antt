@@ -1,5 +1,5 @@
 -- `ranges::days_fit` meets its contract. Assumes nothing.
-use Rattle.ranges.proofs.Returns.{days-said}
+use Rattle.ranges.proofs.RangeReturns.{days-said}
 use borrow.Author.Needs.{needs}
 use Rattle.ranges.proofs.days_fit.Statement.{statement}
 use Rattle.ranges.proofs.days_fit.Tie as tie

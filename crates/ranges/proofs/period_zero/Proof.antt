@@ -1,5 +1,5 @@
 -- `ranges::period_zero` meets its contract; facts are named, so that a wrong one is refused for certain. Assumes nothing.
-use Rattle.ranges.proofs.Returns.{period-free}
+use Rattle.ranges.proofs.RangeReturns.{period-free}
 use borrow.Author.Needs.{needs}
 use Rattle.ranges.proofs.period_zero.Statement.{statement}
 use Rattle.ranges.proofs.period_zero.Tie as tie

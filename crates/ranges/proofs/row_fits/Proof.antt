@@ -1,5 +1,5 @@
 -- `ranges::row_fits` meets its contract; facts are named, so that a wrong one is refused for certain. Assumes nothing.
-use Rattle.ranges.proofs.Returns.{row-said}
+use Rattle.ranges.proofs.RangeReturns.{row-said}
 use borrow.Author.Needs.{needs}
 use Rattle.ranges.proofs.row_fits.Statement.{statement}
 use Rattle.ranges.proofs.row_fits.Tie as tie

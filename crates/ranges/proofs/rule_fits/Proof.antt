@@ -1,5 +1,5 @@
 -- `ranges::rule_fits` meets its contract; facts are named, so that a wrong one is refused for certain. Assumes nothing.
-use Rattle.ranges.proofs.Returns.{rule-said}
+use Rattle.ranges.proofs.RangeReturns.{rule-said}
 use borrow.Author.Needs.{needs}
 use Rattle.ranges.proofs.rule_fits.Statement.{statement}
 use Rattle.ranges.proofs.rule_fits.Tie as tie

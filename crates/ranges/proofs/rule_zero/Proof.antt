@@ -1,5 +1,5 @@
 -- `ranges::rule_zero` meets its contract; facts are named, so that a wrong one is refused for certain. Assumes nothing.
-use Rattle.ranges.proofs.Returns.{rule-free}
+use Rattle.ranges.proofs.RangeReturns.{rule-free}
 use borrow.Author.Needs.{needs}
 use Rattle.ranges.proofs.rule_zero.Statement.{statement}
 use Rattle.ranges.proofs.rule_zero.Tie as tie

@@ -1,5 +1,5 @@
 -- `ranges::type_fits` meets its contract; facts are named, so that a wrong one is refused for certain. Assumes nothing.
-use Rattle.ranges.proofs.Returns.{type-said}
+use Rattle.ranges.proofs.RangeReturns.{type-said}
 use borrow.Author.Needs.{needs}
 use Rattle.ranges.proofs.type_fits.Statement.{statement}
 use Rattle.ranges.proofs.type_fits.Tie as tie

@@ -1,5 +1,5 @@
 -- `ranges::type_zero` meets its contract; facts are named, so that a wrong one is refused for certain. Assumes nothing.
-use Rattle.ranges.proofs.Returns.{type-free}
+use Rattle.ranges.proofs.RangeReturns.{type-free}
 use borrow.Author.Needs.{needs}
 use Rattle.ranges.proofs.type_zero.Statement.{statement}
 use Rattle.ranges.proofs.type_zero.Tie as tie

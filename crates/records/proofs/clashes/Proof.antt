@@ -1,5 +1,5 @@
 -- `records::clashes` meets its contract; facts are named, so that a wrong one is refused for certain. Assumes nothing.
-use Rattle.records.proofs.Returns.{clash-said}
+use Rattle.records.proofs.RecordReturns.{clash-said}
 use borrow.Author.Needs.{needs}
 use Rattle.records.proofs.clashes.Statement.{statement}
 use Rattle.records.proofs.clashes.Tie as tie

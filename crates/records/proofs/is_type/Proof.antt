@@ -1,5 +1,5 @@
 -- `records::is_type` meets its contract. Assumes nothing.
-use Rattle.records.proofs.Returns.{type-named}
+use Rattle.records.proofs.RecordReturns.{type-named}
 use borrow.Author.Needs.{needs}
 use Rattle.records.proofs.is_type.Statement.{statement}
 use Rattle.records.proofs.is_type.Tie as tie

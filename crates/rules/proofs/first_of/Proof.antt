@@ -45,10 +45,10 @@ use denote.Triple.Table.{entered, cited}
 use denote.Triple.Walked.{says, Stays, stay-none, walkOf, goes-none, Walks, ends-at, walked, walk-meets}
 use denote.Exit.{yes}
 use Rattle.rules.specs.Search.{firstPositive}
-use Rattle.rules.specs.declared.Judged.{Judged}
+use Rattle.rules.specs.declared.ListedRule.{ListedRule}
 use Rattle.rules.specs.declared.First.{First}
-use Rattle.rules.proofs.Judged as T
-use Rattle.rules.proofs.Judged.Laws as T′
+use Rattle.rules.proofs.ListedRule as T
+use Rattle.rules.proofs.ListedRule.Laws as T′
 use Rattle.rules.proofs.First as S
 use Rattle.rules.proofs.First.Laws as S′
 use Rattle.rules.proofs.first_positive as search
@@ -63,7 +63,7 @@ use Rattle.rules.proofs.first_of.Code as code
 abbrev R : RattleType
 R = T.the-row
 
-abbrev vals : Judged → List Val
+abbrev vals : ListedRule → List Val
 vals = LL.vals T.the-type T′.the-laws
 
 abbrev Arr : RattleType
@@ -83,7 +83,7 @@ module _ {M : Type 1} (𝓤 : URA M) (H : Heap 𝓤) (A : Atoms 𝓤) (mem : Mem
   abbrev Search : Contract 𝓤
   Search = tripleOf 𝓤 H A search.signature (search.spec 𝓤 H A mem run)
 
-module _ {M : Type 1} (𝓤 : URA M) (H : Heap 𝓤) (A : Atoms 𝓤) (W : Given 𝓤 H A) (mem : Memory → SProp 𝓤) (run : Routine → Fun 𝓤) (xs : List Judged) (p : Is Arr xs (array-vals vals xs)) where
+module _ {M : Type 1} (𝓤 : URA M) (H : Heap 𝓤) (A : Atoms 𝓤) (W : Given 𝓤 H A) (mem : Memory → SProp 𝓤) (run : Routine → Fun 𝓤) (xs : List ListedRule) (p : Is Arr xs (array-vals vals xs)) where
   abbrev v : Val
   v = only (array-vals vals xs)
 
@@ -121,7 +121,7 @@ module _ {M : Type 1} (𝓤 : URA M) (H : Heap 𝓤) (A : Atoms 𝓤) (W : Given
   room = (omega (arith, len), omega (arith, len))
 
   -- the slice that is lent, and the call
-  abbrev lent : ℕ → GName → RefT (List Judged)
+  abbrev lent : ℕ → GName → RefT (List ListedRule)
   lent l γ = record { ptr = (l, 0); name = γ; now = xs }
 
   abbrev to : Lft → ℕ → GName → Search 𝓤 H A mem run .Ghost

@@ -48,13 +48,13 @@ use denote.Triple.Table.{entered, cited}
 use denote.Triple.Walked.{says, Stays, stay-none-slice, walkOf, goes-none-slice, Walks, ends-at, walked, walk-meets}
 use denote.Exit.{yes}
 use Rattle.rules.specs.Search.{noRule, mayDecide, firstPositive}
-use Rattle.rules.specs.declared.Judged.{Judged}
+use Rattle.rules.specs.declared.ListedRule.{ListedRule}
 use Rattle.rules.specs.declared.First.{First}
 use Rattle.rules.specs.declared.First.the-variants.{At, Nothing}
 use Rattle.rules.proofs.Walk.{whiles, ifs}
 use Rattle.rules.proofs.Turns.{hits, misses, ended, is-true, is-false}
-use Rattle.rules.proofs.Judged as T
-use Rattle.rules.proofs.Judged.Laws as T′
+use Rattle.rules.proofs.ListedRule as T
+use Rattle.rules.proofs.ListedRule.Laws as T′
 use Rattle.rules.proofs.First as S
 use Rattle.rules.proofs.First.Laws as S′
 use Rattle.rules.proofs.may_decide as may
@@ -70,7 +70,7 @@ use Rattle.rules.proofs.first_positive.Code.Mir as m
 abbrev R : RattleType
 R = T.the-row
 
-abbrev vals : Judged → List Val
+abbrev vals : ListedRule → List Val
 vals = LL.vals T.the-type T′.the-laws
 
 abbrev stayed : Stays (this.ended .signature .params) (this.ended .kept)
@@ -88,17 +88,17 @@ module _ {M : Type 1} (𝓤 : URA M) (H : Heap 𝓤) (A : Atoms 𝓤) (mem : Mem
   abbrev May : Contract 𝓤
   May = tripleOf 𝓤 H A may.signature (may.spec 𝓤 H A mem run)
 
-  said : (r : Judged) (y : Bool) → ent 𝓤 (ensured 𝓤 H A may.ended (may.clauses 𝓤 H A mem run) tt (r, tt) tt y) (fact 𝓤 (y ≡ mayDecide r))
+  said : (r : ListedRule) (y : Bool) → ent 𝓤 (ensured 𝓤 H A may.ended (may.clauses 𝓤 H A mem run) tt (r, tt) tt y) (fact 𝓤 (y ≡ mayDecide r))
   said r y = exE 𝓤 _ (λ ws. snd∗ 𝓤 (sem 𝓤 H A (lasts may.ended tt (r, tt) ws)) (fact 𝓤 (y ≡ mayDecide r)))
 
-module _ {M : Type 1} (𝓤 : URA M) (H : Heap 𝓤) (A : Atoms 𝓤) (W : Given 𝓤 H A) (mem : Memory → SProp 𝓤) (run : Routine → Fun 𝓤) (κ : Lft) (q : Share) (s : RefT (List Judged)) where
+module _ {M : Type 1} (𝓤 : URA M) (H : Heap 𝓤) (A : Atoms 𝓤) (W : Given 𝓤 H A) (mem : Memory → SProp 𝓤) (run : Routine → Fun 𝓤) (κ : Lft) (q : Share) (s : RefT (List ListedRule)) where
   abbrev b : ℕ
   b = s .ptr .0
 
   abbrev o : ℕ
   o = s .ptr .1
 
-  abbrev ys : List Judged
+  abbrev ys : List ListedRule
   ys = s .now
 
   abbrev n : ℕ
@@ -134,10 +134,10 @@ module _ {M : Type 1} (𝓤 : URA M) (H : Heap 𝓤) (A : Atoms 𝓤) (W : Given
   Nearer-wf : WellFounded Nearer
   Nearer-wf = InvImage·wf (λ (i : Upto). n - i .0) (Nat·lt-wfRel .wf)
 
-  abbrev to : Judged → May 𝓤 H A mem run .Ghost
+  abbrev to : ListedRule → May 𝓤 H A mem run .Ghost
   to r = ((tt, tt, tt, (r, tt), (vals r, tt)), tt)
 
-  goes-may : (r : Judged) → ent 𝓤 (sem 𝓤 H A (R .own r (vals r))) (May 𝓤 H A mem run .pre (to r))
+  goes-may : (r : ListedRule) → ent 𝓤 (sem 𝓤 H A (R .own r (vals r))) (May 𝓤 H A mem run .pre (to r))
   goes-may r = qed W (‵ (R .own r (vals r)) ∷ []) ∵ nothing ! $ move ! (1 ∷ 0 ∷ []) $ join ! $ nothing ! $ join ! $ frame ! $ done !
 
   module _ (𝓣 : Tables 𝓤 H) (fm : FmC 𝓤 H (W .laws) (𝓣 .C)) (known : Triple 𝓤 (𝓣 .C #rules·may-decide) (May 𝓤 H A mem run)) (room : Room R n) (l₀ l₁ l₂ l₃ l₄ l₅ l₆ l₇ l₈ : ℕ) where
@@ -195,7 +195,7 @@ module _ {M : Type 1} (𝓤 : URA M) (H : Heap 𝓤) (A : Atoms 𝓤) (W : Given
         move ! (6 ∷ 7 ∷ []) $ free1 ! $ move ! (4 ∷ 5 ∷ []) $ free1 ! $ move ! (2 ∷ 3 ∷ []) $ free1 ! $ free1 ! $ free0 ! $
         keep ! (1 ∷ 2 ∷ []) $ by ! (exits Nothing _ none (ended ys (i .0) (nltb→le (i .0) n over) ∙ i .1 .1)))
       where
-        elem : Judged
+        elem : ListedRule
         elem = getD ys (i .0) noRule
 
         small : Holds (ltb (i .0) n) → i .0 < n

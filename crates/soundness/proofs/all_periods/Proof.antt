@@ -5,7 +5,7 @@ use native.Mathlib.Omega.{arith}
 use borrow.Author.Needs.{needs}
 use Rattle.chains.specs.Chains.{Going}
 use Rattle.soundness.specs.Tables.{periodCsd, periodChain, periodRight}
-use Rattle.chains.proofs.Passing.{going-none, blocks-on, blocks-fail, going-end}
+use Rattle.chains.proofs.ChainPassing.{going-none, blocks-on, blocks-fail, going-end}
 use Rattle.soundness.proofs.all_periods.Statement.{statement}
 use Rattle.soundness.proofs.all_periods.Tie as tie
 

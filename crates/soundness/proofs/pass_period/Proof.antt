@@ -1,5 +1,5 @@
 -- `soundness::pass_period` meets its contract. Assumes nothing.
-use Rattle.soundness.proofs.Periods.{period-free, period-used}
+use Rattle.soundness.proofs.PeriodTable.{period-free, period-used}
 use borrow.Author.Needs.{needs}
 use Rattle.soundness.proofs.pass_period.Statement.{statement}
 use Rattle.soundness.proofs.pass_period.Tie as tie

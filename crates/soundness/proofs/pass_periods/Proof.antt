@@ -4,8 +4,8 @@ use native.Mathlib.Omega.{arith}
 use borrow.Author.Needs.{needs}
 use Rattle.chains.specs.Chains.{Going}
 use Rattle.soundness.specs.Tables.{periodCsd, periodChain, periodRight}
-use Rattle.chains.proofs.Passing.{going-ready, going-on, block-fails, block-end}
-use Rattle.soundness.proofs.Periods.{period-over}
+use Rattle.chains.proofs.ChainPassing.{going-ready, going-on, block-fails, block-end}
+use Rattle.soundness.proofs.PeriodTable.{period-over}
 use Rattle.soundness.proofs.pass_periods.Statement.{statement}
 use Rattle.soundness.proofs.pass_periods.Tie as tie
 

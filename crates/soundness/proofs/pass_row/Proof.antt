@@ -1,5 +1,5 @@
 -- `soundness::pass_row` meets its contract. Assumes nothing.
-use Rattle.soundness.proofs.Rows.{row-free, row-used}
+use Rattle.soundness.proofs.RowTable.{row-free, row-used}
 use borrow.Author.Needs.{needs}
 use Rattle.soundness.proofs.pass_row.Statement.{statement}
 use Rattle.soundness.proofs.pass_row.Tie as tie

@@ -4,8 +4,8 @@ use native.Mathlib.Omega.{arith}
 use borrow.Author.Needs.{needs}
 use Rattle.chains.specs.Chains.{Going}
 use Rattle.soundness.specs.Tables.{rowCsd, rowChain, rowRight}
-use Rattle.chains.proofs.Passing.{going-ready, going-on, block-fails, block-end}
-use Rattle.soundness.proofs.Rows.{row-over}
+use Rattle.chains.proofs.ChainPassing.{going-ready, going-on, block-fails, block-end}
+use Rattle.soundness.proofs.RowTable.{row-over}
 use Rattle.soundness.proofs.pass_rows.Statement.{statement}
 use Rattle.soundness.proofs.pass_rows.Tie as tie
 

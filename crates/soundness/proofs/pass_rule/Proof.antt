@@ -1,5 +1,5 @@
 -- `soundness::pass_rule` meets its contract. Assumes nothing.
-use Rattle.soundness.proofs.Rules.{rule-free, rule-used}
+use Rattle.soundness.proofs.RuleTable.{rule-free, rule-used}
 use borrow.Author.Needs.{needs}
 use Rattle.soundness.proofs.pass_rule.Statement.{statement}
 use Rattle.soundness.proofs.pass_rule.Tie as tie

@@ -4,8 +4,8 @@ use native.Mathlib.Omega.{arith}
 use borrow.Author.Needs.{needs}
 use Rattle.chains.specs.Chains.{Going}
 use Rattle.soundness.specs.Tables.{ruleCsd, ruleChain, ruleRight}
-use Rattle.chains.proofs.Passing.{going-ready, going-on, block-fails, block-end}
-use Rattle.soundness.proofs.Rules.{rule-over}
+use Rattle.chains.proofs.ChainPassing.{going-ready, going-on, block-fails, block-end}
+use Rattle.soundness.proofs.RuleTable.{rule-over}
 use Rattle.soundness.proofs.pass_rules.Statement.{statement}
 use Rattle.soundness.proofs.pass_rules.Tie as tie
 

@@ -1,5 +1,5 @@
 -- `soundness::pass_type` meets its contract. Assumes nothing.
-use Rattle.soundness.proofs.Types.{type-free, type-used}
+use Rattle.soundness.proofs.TypeTable.{type-free, type-used}
 use borrow.Author.Needs.{needs}
 use Rattle.soundness.proofs.pass_type.Statement.{statement}
 use Rattle.soundness.proofs.pass_type.Tie as tie

@@ -4,8 +4,8 @@ use native.Mathlib.Omega.{arith}
 use borrow.Author.Needs.{needs}
 use Rattle.chains.specs.Chains.{Going}
 use Rattle.soundness.specs.Tables.{typeCsd, typeChain, typeRight}
-use Rattle.chains.proofs.Passing.{going-ready, going-on, block-fails, block-end}
-use Rattle.soundness.proofs.Types.{type-over}
+use Rattle.chains.proofs.ChainPassing.{going-ready, going-on, block-fails, block-end}
+use Rattle.soundness.proofs.TypeTable.{type-over}
 use Rattle.soundness.proofs.pass_types.Statement.{statement}
 use Rattle.soundness.proofs.pass_types.Tie as tie
 

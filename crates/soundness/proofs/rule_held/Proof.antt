@@ -1,5 +1,5 @@
 -- `soundness::rule_held` meets its contract. Assumes nothing.
-use Rattle.soundness.proofs.Rules.{rule-held}
+use Rattle.soundness.proofs.RuleTable.{rule-held}
 use borrow.Author.Needs.{needs}
 use Rattle.soundness.proofs.rule_held.Statement.{statement}
 use Rattle.soundness.proofs.rule_held.Tie as tie

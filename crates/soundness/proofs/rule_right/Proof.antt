@@ -1,5 +1,5 @@
 -- `soundness::rule_right` meets its contract. Assumes nothing.
-use Rattle.chains.proofs.Passing.{judged-both}
+use Rattle.chains.proofs.ChainPassing.{judged-both}
 use borrow.Author.Needs.{needs}
 use Rattle.soundness.proofs.rule_right.Statement.{statement}
 use Rattle.soundness.proofs.rule_right.Tie as tie

@@ -1,5 +1,5 @@
 -- `line::forms::is_number` meets its contract.
-use Rattle.line.proofs.Returns.{number-said}
+use Rattle.line.proofs.LineReturns.{number-said}
 use borrow.Author.Needs.{needs}
 use Rattle.line.proofs.forms.is_number.Statement.{statement}
 use Rattle.line.proofs.forms.is_number.Tie as tie

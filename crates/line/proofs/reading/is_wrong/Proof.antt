@@ -2,7 +2,7 @@
 use Rattle.meaning.specs.Reading.{wrong}
 use Rattle.meaning.specs.Records.{commandOf}
 use Rattle.line.proofs.TableRule.{never-wrong}
-use Rattle.line.proofs.Returns.{period-wrong}
+use Rattle.line.proofs.LineReturns.{period-wrong}
 use mathlib.Core.Path.{sym}
 use borrow.Author.Needs.{needs}
 use Rattle.line.proofs.reading.is_wrong.Statement.{statement}

@@ -64,7 +64,7 @@ use Rattle.line.specs.Table.{formsAt, Counted}
 use Rattle.line.specs.Line.{firstRead, putAt, inRow, valuesOf}
 use Rattle.line.specs.declared.reading.Values.{Values}
 use Rattle.line.proofs.Walk.{whiles}
-use Rattle.line.proofs.Rows.{RowTo, row-start, row-next, row-end}
+use Rattle.line.proofs.FieldNumbers.{RowTo, row-start, row-next, row-end}
 use Rattle.line.proofs.reading.Values as S
 use Rattle.line.proofs.reading.Values.Laws as S′
 use Rattle.line.proofs.reading.form_count as count

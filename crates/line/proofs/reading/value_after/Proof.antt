@@ -1,6 +1,6 @@
 -- `line::reading::value_after` meets its contract.
 use borrow.Author.Needs.{needs}
-use Rattle.line.proofs.Rows.{value-starts, value-ends, value-none, value-some}
+use Rattle.line.proofs.FieldNumbers.{value-starts, value-ends, value-none, value-some}
 use Rattle.line.proofs.reading.value_after.Statement.{statement}
 use Rattle.line.proofs.reading.value_after.Tie as tie
 

@@ -1,6 +1,6 @@
 -- `line::reading::with_field` meets its contract.
 use borrow.Author.Needs.{needs}
-use Rattle.line.proofs.Rows.{put-field}
+use Rattle.line.proofs.FieldNumbers.{put-field}
 use Rattle.line.proofs.reading.with_field.Statement.{statement}
 use Rattle.line.proofs.reading.with_field.Tie as tie
 

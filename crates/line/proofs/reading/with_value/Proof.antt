@@ -1,6 +1,6 @@
 -- `line::reading::with_value` meets its contract.
 use borrow.Author.Needs.{needs}
-use Rattle.line.proofs.Rows.{put-value}
+use Rattle.line.proofs.FieldNumbers.{put-value}
 use Rattle.line.proofs.reading.with_value.Statement.{statement}
 use Rattle.line.proofs.reading.with_value.Tie as tie
 

@@ -13,7 +13,8 @@ use Rattle.tables.proofs.Room.{lone-length}
 use Rattle.tables.proofs.Below.{has-lone}
 use Rattle.tables.proofs.Each.{all-same}
 use Rattle.meaning.specs.Fields.{within}
-use Rattle.meaning.specs.Keys.{sameNumbers, isType, isRule, ofRule, isRow, clash}
+use Rattle.meaning.proofs.SameLists.{same-self, same-back}
+use Rattle.meaning.specs.Keys.{isType, isRule, ofRule, isRow, clash}
 use Rattle.meaning.specs.Sound.{daysFit, typeFits, ruleFits, rowFits, periodFits, fillsRule, goodType, goodRule, goodRow, goodPeriod}
 use Rattle.places.specs.Layout.{typeAt, ruleAt, rowAt, periodAt}
 use Rattle.records.specs.Said.{typeOf, ruleOf, rowOf, periodOf}
@@ -25,28 +26,16 @@ use Rattle.book.specs.Places.{typeHit, ruleHit, rowHit, periodHit}
 use Rattle.soundness.specs.Places.{heldType, heldRule, heldRow, heldPeriod, typeOk, ruleOk, rowOk, periodOk}
 use Rattle.soundness.specs.Tables.{typeCsd, typeSame, typeRest, typeRight, ruleCsd, ruleSame, ruleRest, ruleRight, rowCsd, rowSame, rowRest, rowRight, periodCsd, periodSame, periodRest, periodRight}
 use Rattle.chains.proofs.Earlier.{whole, pairs-earlier}
-use Rattle.soundness.proofs.Types.{type-only}
-use Rattle.soundness.proofs.Rules.{rule-only}
-use Rattle.soundness.proofs.Rows.{row-only}
-use Rattle.soundness.proofs.Periods.{period-only}
+use Rattle.soundness.proofs.TypeTable.{type-only}
+use Rattle.soundness.proofs.RuleTable.{rule-only}
+use Rattle.soundness.proofs.RowTable.{row-only}
+use Rattle.soundness.proofs.PeriodTable.{period-only}
 
 eqb-back : (x y : ℕ) → eqb x y ≡ true → eqb y x ≡ true
 eqb-back x y e = eq-eqb y x (sym (eqb-true x y e))
 
 eqb-self : (x : ℕ) → eqb x x ≡ true
 eqb-self x = eq-eqb x x refl
-
-same-back : (xs ys : List ℕ) → sameNumbers xs ys ≡ true → sameNumbers ys xs ≡ true
-same-back [] [] e = refl
-same-back [] (y ∷ ys) e = e
-same-back (x ∷ xs) [] e = e
-same-back (x ∷ xs) (y ∷ ys) e =
-    let b = both (eqb x y) (sameNumbers xs ys) e in
-    rw (eqb-back x y (b .0)) (same-back xs ys (b .1))
-
-same-self : (xs : List ℕ) → sameNumbers xs xs ≡ true
-same-self [] = refl
-same-self (x ∷ xs) = rw (eqb-self x) (same-self xs)
 
 -- the parts of a test in another order
 

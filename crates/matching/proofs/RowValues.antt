@@ -13,7 +13,7 @@ use Rattle.tables.specs.Count.{allBelow}
 use Rattle.tables.proofs.Counts.{cases, cases-eq, all-more, all-at}
 use Rattle.meaning.specs.Judging.{meetsAll}
 use Rattle.marks.specs.Flags.{flagged}
-use Rattle.matching.specs.Rows.{codesBorne, testAt, valueMet, valuesMet, RowsMarked}
+use Rattle.matching.specs.MatchedRows.{codesBorne, testAt, valueMet, valuesMet, RowsMarked}
 use Rattle.matching.specs.declared.Question.{Question}
 
 -- A criterion, by the arm of its number.

@@ -21,7 +21,7 @@ use Rattle.book.specs.Places.{periodHit}
 use Rattle.chains.specs.Chains.{Ready, Entered, rightBy, Passed, Going, Block}
 use Rattle.chains.specs.Blocks.{zeroFrom, blockFree}
 use Rattle.soundness.specs.Tables.{periodBucket, periodHeld, periodCsd, periodChain, periodSame, periodRest, periodRight}
-use Rattle.chains.proofs.Passing.{passed-free, passed-used}
+use Rattle.chains.proofs.ChainPassing.{passed-free, passed-used}
 use Rattle.chains.proofs.Blocking.{zero-numbers, block-over}
 
 module _ (b : List ℕ) where

@@ -15,14 +15,14 @@ use Rattle.meaning.specs.Records as M
 use Rattle.meaning.specs.Records.{party, account, security}
 use Rattle.meaning.specs.Keys.{ofRule}
 use Rattle.meaning.specs.Judging as meant
-use Rattle.meaning.specs.Judging.{covers, meetsAll, bears}
+use Rattle.meaning.specs.Judging.{covers, meetsAll, hasCode}
 use Rattle.places.specs.Layout.{rowAt, periodAt}
 use Rattle.records.specs.Said.{rowOf, periodOf}
 use Rattle.book.specs.Lone.{rowsOf, periodsOf, loneBook}
-use Rattle.matching.specs.Rows.{asked, codeKey, ruleKey, periodKey, rowKey, codeKeys, ruleKeys, sought, borneBy, codesBorne, tests, rowMatches, rowsMatched}
+use Rattle.matching.specs.MatchedRows.{asked, codeKey, ruleKey, periodKey, rowKey, codeKeys, ruleKeys, sought, borneBy, codesBorne, tests, rowMatches, rowsMatched}
 use Rattle.matching.specs.declared.Question.{Question}
 use Rattle.matching.proofs.Ranged.{Ranged}
-use Rattle.matching.proofs.Rows.{row-met}
+use Rattle.matching.proofs.RowValues.{row-met}
 
 -- ---- the same tests in another order
 
@@ -42,9 +42,9 @@ module _ (b : List ℕ) (q : Question) (r : Ranged (q .csd) b) where
   lone : M.Book
   lone = loneBook (q .csd) b
 
-  -- 1. A marked code is one that the question's party, account or security bears.
-  codes : (kind : ℕ) → kind < 4 → (v : ℕ) → codesBorne b q (codeKey v kind) ≡ bears lone (asked q) kind (sought q kind) v
-  unfolding lone codesBorne borneBy bears periodsOf periodOf
+  -- 1. A marked code is one that the question's party, account or security has.
+  codes : (kind : ℕ) → kind < 4 → (v : ℕ) → codesBorne b q (codeKey v kind) ≡ hasCode lone (asked q) kind (sought q kind) v
+  unfolding lone codesBorne borneBy hasCode periodsOf periodOf
   codes kind low v =
       keys-all codeKeys (λ p. p .csd) (q .csd) (periodAt b) periodKey (borneBy q) 1024
       (λ i l o e. let x = r .periods i l o in omega (arith, x .0, x .1)) (codeKey v kind)

@@ -21,7 +21,7 @@ use Rattle.book.specs.Lone.{typesOf, rulesOf, rowsOf, periodsOf}
 use Rattle.tables.specs.Count.{bit, countBelow, count}
 use Rattle.tables.proofs.Lone.{count-lone}
 use Rattle.book.proofs.Place.{hit, miss}
-use Rattle.owners.proofs.Passing.{next-within}
+use Rattle.owners.proofs.NextPassing.{next-within}
 use Rattle.book.proofs.Looking.{counted-next, counted-last}
 
 -- ---- types

@@ -27,9 +27,9 @@ use Rattle.chains.specs.Chains.{chainHas, Chained, Ready, Entered, rightBy, Pas
 use Rattle.chains.specs.Blocks.{zeroFrom, blockFree}
 use Rattle.soundness.specs.Tables.{ruleBucket, typeHeld, ruleHeld, ruleFilled, typeCsd, typeChain, ruleCsd, ruleChain, ruleSame, ruleRest, ruleRight}
 use Rattle.chains.proofs.Chaining.{table-any}
-use Rattle.chains.proofs.Passing.{passed-free, passed-used}
+use Rattle.chains.proofs.ChainPassing.{passed-free, passed-used}
 use Rattle.chains.proofs.Blocking.{zero-numbers, block-over}
-use Rattle.soundness.proofs.Types.{type-found}
+use Rattle.soundness.proofs.TypeTable.{type-found}
 
 module _ (b : List ℕ) where
   inside : (k : ℕ) → ruleCsd b k ≤ 8 → ruleChain b k < 1152

@@ -23,7 +23,7 @@ use Rattle.chains.specs.Chains.{Chained, Ready, Entered, rightBy, Passed, Going
 use Rattle.chains.specs.Blocks.{zeroFrom, blockFree}
 use Rattle.soundness.specs.Tables.{typeBucket, typeHeld, typeCsd, typeChain, typeSame, typeRest, typeRight}
 use Rattle.chains.proofs.Chaining.{table-any}
-use Rattle.chains.proofs.Passing.{passed-free, passed-used}
+use Rattle.chains.proofs.ChainPassing.{passed-free, passed-used}
 use Rattle.chains.proofs.Blocking.{zero-numbers, block-over}
 
 module _ (b : List ℕ) where

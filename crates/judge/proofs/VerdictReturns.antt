@@ -9,7 +9,7 @@ use Rattle.meaning.specs.Judging.{covers, by}
 use Rattle.meaning.specs.declared.Deciding.{Deciding}
 use Rattle.places.specs.declared.RestrictionType.{RestrictionType}
 use Rattle.places.specs.declared.Rule.{Rule}
-use Rattle.matching.specs.Rows.{ruleKey}
+use Rattle.matching.specs.MatchedRows.{ruleKey}
 use Rattle.judge.specs.Stages.{typeKey, ruleMatches, ruleOfType, firstRule, typeApplies, decided, verdict}
 use Rattle.matching.specs.declared.Question.{Question}
 

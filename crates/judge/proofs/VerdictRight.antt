@@ -16,16 +16,16 @@ use Rattle.meaning.specs.Records as M
 use Rattle.meaning.specs.Records.{positive, negative, rejection, validationHold, partyHold}
 use Rattle.meaning.specs.Keys.{ofRule}
 use Rattle.meaning.specs.Judging as meant
-use Rattle.meaning.specs.Judging.{covers, meetsAll, matches, speaks, applies, deciding, judged}
+use Rattle.meaning.specs.Judging.{covers, meetsAll, matches, ruleApplies, applies, deciding, judged}
 use Rattle.meaning.specs.Sound.{soundLone}
 use Rattle.places.specs.Layout.{typeAt, ruleAt}
 use Rattle.records.specs.Said.{typeOf, ruleOf}
 use Rattle.book.specs.Lone.{typesOf, rulesOf, loneBook}
-use Rattle.matching.specs.Rows.{asked, ruleKey, codesBorne, rowsMatched}
+use Rattle.matching.specs.MatchedRows.{asked, ruleKey, codesBorne, rowsMatched}
 use Rattle.judge.specs.Stages.{signKey, typeKey, signedKey, typedKey, signKeys, typeKeys, ruleMatches, ruleOfType, rulesMatched, signsMatched, typeApplies, typesNamed, firstRule, decided, verdict, rulesOn, signsOn, judgedBy}
 use Rattle.matching.specs.declared.Question.{Question}
 use Rattle.matching.proofs.Ranged.{Ranged, ranged}
-use Rattle.matching.proofs.Right.{rows}
+use Rattle.matching.proofs.MarksRight.{rows}
 
 -- ---- the same tests in another order
 
@@ -59,13 +59,13 @@ module _ (b : List ℕ) (q : Question) (r : Ranged (q .csd) b) where
   lone : M.Book
   lone = loneBook (q .csd) b
 
-  -- 3. A rule that matches is one that speaks for its type and sign.
+  -- 3. A rule that matches is one that applies for its type and sign.
   rules-of : ℕ → ℕ → ℕ → Bool
-  rules-of t sign i = eqb (ruleAt b i .csd) (q .csd) && speaks lone (asked q) t sign (ruleOf (ruleAt b i))
+  rules-of t sign i = eqb (ruleAt b i .csd) (q .csd) && ruleApplies lone (asked q) t sign (ruleOf (ruleAt b i))
 
   -- with a further test s of the rule's key, as of its sequence
-  spoken : (t sign i : ℕ) (s : Bool) → i < 512 → ruleAt b i .csd ≡ q .csd → (ruleMatches q (rowsMatched b q (codesBorne b q)) (ruleAt b i) && (eqb (ruleAt b i .sign) sign && (s && eqb (ruleAt b i .number) t))) ≡ (speaks lone (asked q) t sign (ruleOf (ruleAt b i)) && s)
-  unfolding lone ruleMatches speaks matches ruleOf
+  spoken : (t sign i : ℕ) (s : Bool) → i < 512 → ruleAt b i .csd ≡ q .csd → (ruleMatches q (rowsMatched b q (codesBorne b q)) (ruleAt b i) && (eqb (ruleAt b i .sign) sign && (s && eqb (ruleAt b i .number) t))) ≡ (ruleApplies lone (asked q) t sign (ruleOf (ruleAt b i)) && s)
+  unfolding lone ruleMatches ruleApplies matches ruleOf
   spoken t sign i s l e =
       rule-order (eqb (ruleAt b i .object) (q .object)) (covers (ruleAt b i .first) (ruleAt b i .last) (q .day))
       (rowsMatched b q (codesBorne b q) (ruleKey (ruleAt b i .number) (ruleAt b i .sequence)))
@@ -75,8 +75,8 @@ module _ (b : List ℕ) (q : Question) (r : Ranged (q .csd) b) where
       ∙ ap (λ o. has (λ w. ofRule (ruleAt b i .number) o (ruleAt b i .sequence) w && meetsAll (meant.tests lone (asked q)) (w .values)) (lone .rows))
       (sym (eqb-true (ruleAt b i .object) (q .object) z)))
 
-  -- A marked sign of a type is that of a rule that speaks.
-  signs : (t sign : ℕ) → sign < 3 → signsOn b q (typeKey t sign) ≡ has (speaks lone (asked q) t sign) (lone .rules)
+  -- A marked sign of a type is that of a rule that applies.
+  signs : (t sign : ℕ) → sign < 3 → signsOn b q (typeKey t sign) ≡ has (ruleApplies lone (asked q) t sign) (lone .rules)
   unfolding lone signsMatched rulesOf
   signs t sign few =
       keys-all typeKeys (λ r. r .csd) (q .csd) (ruleAt b) typedKey (ruleMatches q (rowsMatched b q (codesBorne b q))) 512
@@ -87,7 +87,7 @@ module _ (b : List ℕ) (q : Question) (r : Ranged (q .csd) b) where
       (λ e.
       let o = eqb-true (ruleAt b i .csd) (q .csd) e in
       rw (e, parts-eq 3 (ruleAt b i .number) (ruleAt b i .sign) t sign (r .rules i l o .2) few)
-      (spoken t sign i true l o ∙ and-true (speaks lone (asked q) t sign (ruleOf (ruleAt b i)))))
+      (spoken t sign i true l o ∙ and-true (ruleApplies lone (asked q) t sign (ruleOf (ruleAt b i)))))
       (λ e. rw e))
       ∙ sym (has-lone (λ r. r .csd) ruleOf (q .csd) (ruleAt b) _ 512)
 
@@ -97,8 +97,8 @@ module _ (b : List ℕ) (q : Question) (r : Ranged (q .csd) b) where
   applied processing i =
       rw (signs (typeAt b i .number) positive (omega arith), signs (typeAt b i .number) negative (omega arith))
       (type-order (eqb (typeAt b i .object) (q .object)) (covers (typeAt b i .first) (typeAt b i .last) (q .day))
-      (has (speaks lone (asked q) (typeAt b i .number) positive) (lone .rules))
-      (not (has (speaks lone (asked q) (typeAt b i .number) negative) (lone .rules))) (eqb (typeAt b i .processing) processing))
+      (has (ruleApplies lone (asked q) (typeAt b i .number) positive) (lone .rules))
+      (not (has (ruleApplies lone (asked q) (typeAt b i .number) negative) (lone .rules))) (eqb (typeAt b i .processing) processing))
 
   lowest : (processing : ℕ) → leastBelow (λ i. cond (eqb (typeAt b i .csd) (q .csd) && (typeApplies q (signsOn b q) (typeAt b i) && eqb (typeAt b i .processing) processing)) (typeAt b i .number) 0) 128 ≡ meant.named lone (asked q) processing
   unfolding lone meant.named typesOf typeOf
@@ -107,7 +107,7 @@ module _ (b : List ℕ) (q : Question) (r : Ranged (q .csd) b) where
       ∙ sym (least-lone (λ t. t .csd) typeOf (q .csd) (typeAt b) _ _ 128)
 
   -- 5. What is found in rising sequence is what the written meaning finds among the rules.
-  -- A marked rule of a type is one that speaks, at its sequence.
+  -- A marked rule of a type is one that applies, at its sequence.
   rules : (t x sign : ℕ) → sign < 3 → rulesOn b q t (signKey x sign) ≡ anyBelow (λ i. rules-of t sign i && eqb (ruleAt b i .sequence) x) 512
   unfolding rulesMatched ruleOfType rules-of
   rules t x sign few =

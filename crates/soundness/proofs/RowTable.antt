@@ -10,7 +10,8 @@ use Rattle.tables.specs.Below.{anyBelow}
 use Rattle.tables.specs.Count.{every}
 use Rattle.tables.proofs.Zeros.{numbers-zeros}
 use Rattle.tables.proofs.Counts.{both, ands}
-use Rattle.meaning.specs.Keys.{sameNumbers, ofRule, isRow}
+use Rattle.meaning.specs.Keys.{ofRule, isRow}
+use Rattle.meaning.proofs.SameLists.{same-numbers}
 use Rattle.meaning.specs.Sound.{rowFits}
 use Rattle.places.specs.Layout.{rowAt, rowStart, rowWidths, rowFrom}
 use Rattle.places.specs.declared.Row.{Row}
@@ -24,17 +25,9 @@ use Rattle.book.specs.Places.{ruleHit, rowHit}
 use Rattle.chains.specs.Chains.{Chained, Ready, Entered, rightBy, Passed, Going, Block}
 use Rattle.chains.specs.Blocks.{zeroFrom, blockFree}
 use Rattle.soundness.specs.Tables.{rowBucket, ruleFilled, rowHeld, ruleCsd, ruleChain, rowCsd, rowChain, rowSame, rowRest, rowRight}
-use Rattle.chains.proofs.Passing.{passed-free, passed-used}
+use Rattle.chains.proofs.ChainPassing.{passed-free, passed-used}
 use Rattle.chains.proofs.Blocking.{zero-numbers, block-over}
-use Rattle.soundness.proofs.Rules.{rule-found}
-
-same-equal : (xs ys : List ℕ) → sameNumbers xs ys ≡ true → ys ≡ xs
-same-equal [] [] e = refl
-same-equal [] (y ∷ ys) e = absurd (false≢true e)
-same-equal (x ∷ xs) [] e = absurd (false≢true e)
-same-equal (x ∷ xs) (y ∷ ys) e =
-    let b = both (eqb x y) (sameNumbers xs ys) e in
-    ap₂ (λ (z : ℕ) (l : List ℕ). z ∷ l) (sym (eqb-true x y (b .0))) (same-equal xs ys (b .1))
+use Rattle.soundness.proofs.RuleTable.{rule-found}
 
 module _ (b : List ℕ) where
   inside : (k : ℕ) → rowCsd b k ≤ 8 → rowChain b k < 2304
@@ -48,7 +41,7 @@ module _ (b : List ℕ) where
       let y = eqb-true (rowAt b j .number) (rowAt b k .number) (search ands) in
       let z = eqb-true (rowAt b j .object) (rowAt b k .object) (search ands) in
       let w = eqb-true (rowAt b j .sequence) (rowAt b k .sequence) (search ands) in
-      let v = same-equal (rowAt b k .values) (rowAt b j .values) (search ands) in
+      let v = sym (same-numbers (rowAt b k .values) (rowAt b j .values) (search ands)) in
       (x, rw (x, y, z, w, v))
 
   pub row-free : (i : ℕ) (t : Row) (r : Bool) (counts head next : List ℕ) → r ≡ rowZero t → t .csd ≡ 0 → t ≡ rowAt b i → Ready (rowCsd b) (rowChain b) 2304 1024 i counts head next → Passed (rowCsd b) (rowChain b) 2304 1024 (rowRight b) i r counts head next
