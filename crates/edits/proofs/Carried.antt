@@ -134,10 +134,10 @@ module _ (c n o s new : ℕ) (b : List ℕ) where
         ap (λ r. r .csd) (passed 1024 k (omega arith) l)
         ∙ cases (carried c n o s new (rowAt b k)) (λ e. rw e) (λ e. rw e)
 
-    pub rows-carried : rowsOf c (carryRows c n o s new b 1024) ≡ change (ofRule n o s) (E.rowAt new) (rowsOf c b)
+    pub rows-carried : rowsOf c (carryRows c n o s new b 1024) ≡ change (ofRule n o s) (E.rowMoved new) (rowsOf c b)
     unfolding rowsOf rowOf carried change
     rows-carried =
-        lone-altered (λ r. r .csd) rowOf c (λ x. cond (ofRule n o s x) (E.rowAt new x) x) (rowAt b) (rowAt (carryRows c n o s new b 1024)) 1024 same-csd
+        lone-altered (λ r. r .csd) rowOf c (λ x. cond (ofRule n o s x) (E.rowMoved new x) x) (rowAt b) (rowAt (carryRows c n o s new b 1024)) 1024 same-csd
         (λ k l e.
         ap rowOf (passed 1024 k (omega arith) l)
         ∙ rw (eq-eqb (rowAt b k .csd) c e) (cases (ofRule n o s (rowOf (rowAt b k))) (λ z. rw z) (λ z. rw z)))
@@ -171,8 +171,8 @@ module _ (b : List ℕ) (i c n o s new : ℕ) (size : length b ≡ 51200) (low :
         places = λ e. carried-placed c n o s new moved z moved-holds low high 1024 (omega arith) (rule-placed b i r place rule-holds size (of-one (ruleZero r) (r .csd) (rw own low) (rw own high)) e);
         own = record {
           types = same-equal (types-carried c n o s new moved c 1024 (omega arith) ∙ types-by-rule b i r place c);
-          rules = same-equal (rules-carried c n o s new moved c 1024 (omega arith) ∙ rules-changed b i c (isRule n o s) place size own hit once r (E.ruleAt new) rule-holds own refl);
-          rows = same-equal (rows-carried c n o s new moved z moved-holds ∙ ap (change (ofRule n o s) (E.rowAt new)) (rows-by-rule b i r place c));
+          rules = same-equal (rules-carried c n o s new moved c 1024 (omega arith) ∙ rules-changed b i c (isRule n o s) place size own hit once r (E.ruleMoved new) rule-holds own refl);
+          rows = same-equal (rows-carried c n o s new moved z moved-holds ∙ ap (change (ofRule n o s) (E.rowMoved new)) (rows-by-rule b i r place c));
           periods = same-equal (periods-carried c n o s new moved c 1024 (omega arith) ∙ periods-by-rule b i r place c);
         };
         others = λ a u d k. record {

@@ -1,14 +1,15 @@
--- No refusal is given exactly where no condition holds.
+-- No refusal is given exactly where no condition holds; what is not refused meets no condition, each found by its number.
 use Prim.Native.Nat.{ℕ}
 use mathlib.Core.Path.{_≡_, refl}
-use mathlib.Core.Bool.{Bool, true, false}
+use mathlib.Core.Bool.{Bool, true, false, cond}
 use mathlib.Core.List.{List, [], _∷_}
 use native.Mathlib.Omega.{arith}
-use lib.Dec.{ltb}
+use lib.Dec.{eqb, ltb}
 use borrow.Author.Tests.{ltb-true}
 use Rattle.tables.specs.Count.{every}
 use Rattle.tables.proofs.Counts.{cases, both}
-use Rattle.meaning.specs.Refusals.{firstOf}
+use Rattle.meaning.specs.Records.{Book, Command, addType, endType, addRule, reorder, deleteRule, addRow, deleteRow, addPeriod, endPeriod, ask}
+use Rattle.meaning.specs.Refusals.{firstOf, conditions, refusal}
 
 -- no condition of the list holds
 abbrev pub NoneHold : List (ℕ × Bool) → Type 0
@@ -31,3 +32,34 @@ none-hold (c ∷ cs) p e =
 pub none-first : (cs : List (ℕ × Bool)) → NoneHold cs → firstOf cs ≡ 0
 none-first [] h = refl
 none-first (c ∷ cs) h = rw (h .0) (none-first cs (h .1))
+
+-- whether the condition of that number holds
+abbrev pub conditionOf : ℕ → List (ℕ × Bool) → Bool
+conditionOf n [] = false
+conditionOf n (c ∷ cs) = cond (eqb (c .0) n) (c .1) (conditionOf n cs)
+
+none-of : (n : ℕ) (cs : List (ℕ × Bool)) → NoneHold cs → conditionOf n cs ≡ false
+none-of n [] h = refl
+none-of n (c ∷ cs) h = cases (eqb (c .0) n) (λ e. rw e (h .0)) (λ e. rw e (none-of n cs (h .1)))
+
+-- Not refused, so condition n does not hold: for any list of conditions.
+pub not-refused : (cs : List (ℕ × Bool)) → fromOne cs ≡ true → firstOf cs ≡ 0 → (n : ℕ) → conditionOf n cs ≡ false
+not-refused cs p e n = none-of n cs (none-hold cs p e)
+
+numbered : (b : Book) (k : Command) → fromOne (conditions b k) ≡ true
+unfolding conditions every
+numbered b (addType d t) = refl
+numbered b (endType d type object last) = refl
+numbered b (addRule d r) = refl
+numbered b (reorder type object sequence new) = refl
+numbered b (deleteRule type object sequence) = refl
+numbered b (addRow w) = refl
+numbered b (deleteRow w) = refl
+numbered b (addPeriod d p) = refl
+numbered b (endPeriod d kind number code first last) = refl
+numbered b (ask q) = refl
+
+-- The same of a command.
+pub command-not-refused : (b : Book) (k : Command) → refusal b k ≡ 0 → (n : ℕ) → conditionOf n (conditions b k) ≡ false
+unfolding refusal
+command-not-refused b k = not-refused (conditions b k) (numbered b k)

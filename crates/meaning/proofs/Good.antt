@@ -11,17 +11,17 @@ use Rattle.tables.specs.Count.{count, has, every}
 use Rattle.tables.proofs.Counts.{both, ands, agree, cases}
 use Rattle.tables.proofs.Lists.{some-of, every-both, every-map, count-under, same-length, same-has, same-every}
 use Rattle.tables.proofs.Limits.{limit-all, limit-each}
-use Rattle.meaning.specs.Records.{TypeRecord, Rule, Row, Period, Book}
+use Rattle.meaning.specs.Records.{TypeRecord, Rule, Row, Period, Book, typeQuota, ruleQuota, rowQuota, periodQuota}
 use Rattle.meaning.specs.Keys.{isType, isRule, ofRule, isRow, isPeriod, clash}
 use Rattle.meaning.proofs.SameLists.{same-self, same-numbers}
 use Rattle.meaning.specs.Sound.{daysFit, typeFits, ruleFits, rowFits, periodFits, goodType, goodRule, fillsRule, goodRow, goodPeriod, quotas, soundLone}
 use Rattle.meaning.specs.SameBook.{SameBook}
 
 pub record Good (b : Book) : Type 0 where
-  pub typesFew : length (b .types) ≤ 16
-  pub rulesFew : length (b .rules) ≤ 64
-  pub rowsFew : length (b .rows) ≤ 128
-  pub periodsFew : length (b .periods) ≤ 128
+  pub typesFew : length (b .types) ≤ typeQuota
+  pub rulesFew : length (b .rules) ≤ ruleQuota
+  pub rowsFew : length (b .rows) ≤ rowQuota
+  pub periodsFew : length (b .periods) ≤ periodQuota
   pub typesFit : every typeFits (b .types) ≡ true
   pub rulesFit : every ruleFits (b .rules) ≡ true
   pub rowsFit : every rowFits (b .rows) ≡ true
@@ -124,10 +124,10 @@ good-of-sound b e =
     let rows : every (goodRow b) (b .rows) ≡ true = search ands in
     let periods : every (goodPeriod b) (b .periods) ≡ true = search ands in
     record {
-      typesFew = leb-true (length (b .types)) 16 (search ands);
-      rulesFew = leb-true (length (b .rules)) 64 (search ands);
-      rowsFew = leb-true (length (b .rows)) 128 (search ands);
-      periodsFew = leb-true (length (b .periods)) 128 (search ands);
+      typesFew = leb-true (length (b .types)) typeQuota (search ands);
+      rulesFew = leb-true (length (b .rules)) ruleQuota (search ands);
+      rowsFew = leb-true (length (b .rows)) rowQuota (search ands);
+      periodsFew = leb-true (length (b .periods)) periodQuota (search ands);
       typesFit = every-map (goodType b) typeFits (b .types) types (λ x h. search ands);
       rulesFit = every-map (goodRule b) ruleFits (b .rules) rules (λ x h. search ands);
       rowsFit = every-map (goodRow b) rowFits (b .rows) rows (λ x h. search ands);
@@ -147,10 +147,10 @@ pub sound-of-good : (b : Book) → Good b → soundLone b ≡ true
 unfolding soundLone quotas goodType goodRule goodRow goodPeriod
 sound-of-good b g =
     rw (
-      le-leb (length (b .types)) 16 (g .typesFew),
-      le-leb (length (b .rules)) 64 (g .rulesFew),
-      le-leb (length (b .rows)) 128 (g .rowsFew),
-      le-leb (length (b .periods)) 128 (g .periodsFew),
+      le-leb (length (b .types)) typeQuota (g .typesFew),
+      le-leb (length (b .rules)) ruleQuota (g .rulesFew),
+      le-leb (length (b .rows)) rowQuota (g .rowsFew),
+      le-leb (length (b .periods)) periodQuota (g .periodsFew),
       every-both typeFits _ (b .types) (g .typesFit)
           (limit-each typeAsk typeKey type-hit 1 (b .types) (λ κ. g .typeOnce (κ .0) (κ .1))),
       every-both ruleFits _ (b .rules) (g .rulesFit)

@@ -12,13 +12,13 @@ use Rattle.tables.proofs.Counts.{cases, both, agree, neither, and-l, ands, bit-
 use Rattle.tables.proofs.Lists.{has-cons, has-true, has-false, true-has, count-no, every-both, every-map, every-alter, every-keep, every-none, every-any, count-under, count-kept, length-keep, length-alter, some-of}
 use Rattle.tables.proofs.Limits.{limit-added}
 use Rattle.meaning.specs.Forms.{Letter, holds, holdsAll, day, code, sequenceForm, processingForm, kindForm, numberForm, tenValues}
-use Rattle.meaning.specs.Records.{TypeRecord, Rule, Row, Period, Book, empty, Command, commandOf, addType, endType, addRule, reorder, deleteRule, addRow, deleteRow, addPeriod, endPeriod, ask}
+use Rattle.meaning.specs.Records.{TypeRecord, Rule, Row, Period, Book, empty, Command, commandOf, addType, endType, addRule, reorder, deleteRule, addRow, deleteRow, addPeriod, endPeriod, ask, typeQuota, ruleQuota, rowQuota, periodQuota}
 use Rattle.meaning.specs.Keys.{isType, isRule, ofRule, isRow, isPeriod, clash, filled}
 use Rattle.meaning.specs.Refusals.{outside, typeOutside, periodOutside, otherCriteria, conditions, refusal}
 use Rattle.meaning.specs.Edits.{typeUntil, periodUntil, ruleMoved, rowMoved, edited}
 use Rattle.meaning.specs.Reading.{Reading, refused, asks, reading}
 use Rattle.meaning.specs.Lone.{unless, taken, afterReading, step, after}
-use Rattle.meaning.proofs.First.{none-hold}
+use Rattle.meaning.proofs.First.{command-not-refused}
 use Rattle.meaning.proofs.Ranges.{reading-fits}
 use Rattle.meaning.specs.Sound.{daysFit, keyFits, typeFits, ruleFits, rowFits, periodFits, fits, fillsRule, soundLone}
 use Rattle.meaning.proofs.Good.{Good, typeAsk, typeKey, type-hit, ruleAsk, ruleKey, rule-hit, row-key, rule-key, of-key, is-rule, is-of, row-self, row-of-rule, rule-of-row, good-of-sound, sound-of-good}
@@ -116,7 +116,7 @@ clash-shorter x′ x y′ y s t h =
 -- ---- T
 
 module _ (b : Book) (g : Good b) where
-  good-type : (d : ℕ) (t : TypeRecord) → typeFits t ≡ true → has (isType (t .type) (t .object)) (b .types) ≡ false → length (b .types) < 16 → Good (edited b (addType d t))
+  good-type : (d : ℕ) (t : TypeRecord) → typeFits t ≡ true → has (isType (t .type) (t .object)) (b .types) ≡ false → length (b .types) < typeQuota → Good (edited b (addType d t))
   unfolding edited
   good-type d t f n l =
       record {
@@ -140,7 +140,7 @@ module _ (b : Book) (g : Good b) where
 
   -- ---- R
 
-  good-rule : (d : ℕ) (r : Rule) → ruleFits r ≡ true → has (isType (r .type) (r .object)) (b .types) ≡ true → has (isRule (r .type) (r .object) (r .sequence)) (b .rules) ≡ false → length (b .rules) < 64 → Good (edited b (addRule d r))
+  good-rule : (d : ℕ) (r : Rule) → ruleFits r ≡ true → has (isType (r .type) (r .object)) (b .types) ≡ true → has (isRule (r .type) (r .object) (r .sequence)) (b .rules) ≡ false → length (b .rules) < ruleQuota → Good (edited b (addRule d r))
   unfolding edited
   good-rule d r f t n l =
       record {
@@ -179,7 +179,7 @@ module _ (b : Book) (g : Good b) where
       each : (r : Rule) → not (otherCriteria w r) ≡ true → isRule (w .type) (w .object) (w .sequence) r ≡ true → fillsRule w r ≡ true
       each r e f = rw f (not-false (eqb (r .criteria) (filled (w .values))) (rw f at (not-true (otherCriteria w r) e)))
 
-  good-row : (w : Row) → rowFits w ≡ true → has (isRule (w .type) (w .object) (w .sequence)) (b .rules) ≡ true → has (isRow w) (b .rows) ≡ false → has (otherCriteria w) (b .rules) ≡ false → length (b .rows) < 128 → Good (edited b (addRow w))
+  good-row : (w : Row) → rowFits w ≡ true → has (isRule (w .type) (w .object) (w .sequence)) (b .rules) ≡ true → has (isRow w) (b .rows) ≡ false → has (otherCriteria w) (b .rules) ≡ false → length (b .rows) < rowQuota → Good (edited b (addRow w))
   unfolding edited
   good-row w f h n o l =
       record {
@@ -304,7 +304,7 @@ module _ (b : Book) (g : Good b) where
 
   -- ---- A
 
-  good-period : (d : ℕ) (p : Period) → periodFits p ≡ true → has (clash p) (b .periods) ≡ false → length (b .periods) < 128 → Good (edited b (addPeriod d p))
+  good-period : (d : ℕ) (p : Period) → periodFits p ≡ true → has (clash p) (b .periods) ≡ false → length (b .periods) < periodQuota → Good (edited b (addPeriod d p))
   unfolding edited
   good-period d p f n l =
       record {
@@ -555,34 +555,29 @@ module _ (b : Book) (g : Good b) where
 -- ---- every command
 
 pub good-edited : (b : Book) → Good b → (k : Command) → fits k ≡ true → refusal b k ≡ 0 → Good (edited b k)
-unfolding refusal fits edited every
+unfolding conditions fits edited
 good-edited b g (addType d t) f e =
-    let n = none-hold (conditions b (addType d t)) refl e in
-    good-type b g d t f (n .1 .0) (leb-false 16 (length (b .types)) (n .1 .1 .0))
+    let no = command-not-refused b (addType d t) e in
+    good-type b g d t f (no 8) (leb-false typeQuota (length (b .types)) (no 10))
 good-edited b g (endType d n o last) f e =
-    let h = none-hold (conditions b (endType d n o last)) refl e in
-    good-type-end b g d n o last f (h .1 .1 .0)
+    good-type-end b g d n o last f (command-not-refused b (endType d n o last) e 9)
 good-edited b g (addRule d r) f e =
-    let n = none-hold (conditions b (addRule d r)) refl e in
-    good-rule b g d r f (not-false (has (isType (r .type) (r .object)) (b .types)) (n .1 .0)) (n .1 .1 .0)
-    (leb-false 64 (length (b .rules)) (n .1 .1 .1 .0))
+    let no = command-not-refused b (addRule d r) e in
+    good-rule b g d r f (not-false (has (isType (r .type) (r .object)) (b .types)) (no 7)) (no 8)
+    (leb-false ruleQuota (length (b .rules)) (no 10))
 good-edited b g (reorder n o s new) f e =
-    let h = none-hold (conditions b (reorder n o s new)) refl e in
-    good-reorder b g n o s new f (h .1 .0)
-good-edited b g (deleteRule n o s) f e =
-    let h = none-hold (conditions b (deleteRule n o s)) refl e in
-    good-rule-out b g n o s (h .1 .0)
+    good-reorder b g n o s new f (command-not-refused b (reorder n o s new) e 8)
+good-edited b g (deleteRule n o s) f e = good-rule-out b g n o s (command-not-refused b (deleteRule n o s) e 9)
 good-edited b g (addRow w) f e =
-    let n = none-hold (conditions b (addRow w)) refl e in
-    good-row b g w f (not-false (has (isRule (w .type) (w .object) (w .sequence)) (b .rules)) (n .0)) (n .1 .0) (n .1 .1 .0)
-    (leb-false 128 (length (b .rows)) (n .1 .1 .1 .0))
+    let no = command-not-refused b (addRow w) e in
+    good-row b g w f (not-false (has (isRule (w .type) (w .object) (w .sequence)) (b .rules)) (no 7)) (no 8) (no 9)
+    (leb-false rowQuota (length (b .rows)) (no 10))
 good-edited b g (deleteRow w) f e = good-row-out b g w
 good-edited b g (addPeriod d p) f e =
-    let n = none-hold (conditions b (addPeriod d p)) refl e in
-    good-period b g d p f (n .1 .0) (leb-false 128 (length (b .periods)) (n .1 .1 .0))
+    let no = command-not-refused b (addPeriod d p) e in
+    good-period b g d p f (no 8) (leb-false periodQuota (length (b .periods)) (no 10))
 good-edited b g (endPeriod d κ n o first last) f e =
-    let h = none-hold (conditions b (endPeriod d κ n o first last)) refl e in
-    good-period-end b g κ n o first last f (h .1 .1 .0) d
+    good-period-end b g κ n o first last f (command-not-refused b (endPeriod d κ n o first last) e 9) d
 good-edited b g (ask q) f e = g
 
 -- ---- every line
