@@ -3,15 +3,10 @@ ghost use mathlib.Core.Path.{_≡_};
 ghost use Prim.Native.Nat.{_+_, _*_, _≤_};
 ghost use Rattle.tables.specs.Bytes.{byteAt, one, two, three, four, number};
 ghost use Rattle.places.specs.Layout.{typeAt, zeroType, ruleAt, zeroRule, rowAt, zeroRow, periodAt, zeroPeriod};
+use basics::wide;
 
 // The book's exact size in bytes (docs/typeAt, zeroType, ruleAt, zeroRule, rowAt, zeroRow, periodAt, zeroPeriod.md).
 pub const SIZE: usize = 51200;
-
-fn wide(x: u8) -> u32
-    ensures { λ r. ⌜ r ≡ x ⌝ }
-{
-    x as u32
-}
 
 // The address of place i of a table that starts at an address and has places of a width.
 pub fn address(start: u16, width: u8, i: u16) -> u32
@@ -25,8 +20,7 @@ pub fn address(start: u16, width: u8, i: u16) -> u32
 fn byte_at(b: &[u8], at: u32, j: u32) -> u8
     ensures { λ r. ⌜ r ≡ byteAt (now (b .entry)) (at + j) ⌝ }
 {
-    let i = at as usize + j as usize;
-    if i < b.len() { b[i] } else { 0 }
+    basics::byte_at(b, at as usize + j as usize)
 }
 
 // Numbers of one to four bytes, lowest first.

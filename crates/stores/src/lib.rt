@@ -5,23 +5,13 @@ ghost use lib.ListN.{set, getD};
 ghost use mathlib.Core.List.{[], _∷_};
 ghost use Rattle.tables.specs.Bytes.{one, two, three, four, digits, bytesOf, puts};
 ghost use Rattle.places.specs.Layout.{putType, putRule, putRow, putPeriod};
+use basics::low;
+use basics::wide;
 use places::Period;
 use places::RestrictionType;
 use places::Row;
 use places::Rule;
 use places::address;
-
-fn wide(x: u8) -> u32
-    ensures { λ r. ⌜ r ≡ x ⌝ }
-{
-    x as u32
-}
-
-fn low(v: u32) -> u8
-    ensures { λ r. ⌜ r ≡ v % 256 ⌝ }
-{
-    (v % 256) as u8
-}
 
 // Writes a byte at an offset from a place, and nothing past the end.
 fn put_byte(b: &mut [u8], at: u32, j: u32, v: u8)
