@@ -1,15 +1,15 @@
 -- What the commands of each letter show, from what the calls ensure; and which letter an arm of the match on the byte is for.
 use Prim.Native.Nat.{ℕ, zero, suc, _+_, _%_}
 use mathlib.Core.Path.{_≡_, refl, ap, sym, _∙_}
-use mathlib.Core.Bool.{Bool, false, not, cond, _&&_, _||_}
-use mathlib.Core.List.{List, [], _∷_}
+use mathlib.Core.Bool.{Bool, false, not, cond, _&&_, _||_, and-true}
+use mathlib.Core.List.{List, [], _∷_, map}
 use native.Mathlib.Omega.{arith}
 use lib.Dec.{eqb, ltb}
-use lib.ListN.{length, replicate}
+use lib.ListN.{getD, replicate}
 use borrow.Author.Tests.{ne-eqb}
 use Rattle.tables.proofs.Counts.{cases}
-use Rattle.meaning.specs.Text.{bytes, place}
-use Rattle.meaning.specs.Forms.{Letter, letterT, letterE, letterR, letterO, letterD, letterM, letterN, letterA, letterZ, letterQ, letterAt, lettersText}
+use Rattle.meaning.specs.Text.{bytes, same}
+use Rattle.meaning.specs.Forms.{Letter, letterT, letterE, letterR, letterO, letterD, letterM, letterN, letterA, letterZ, letterQ, letterText, Shape, shapeT, shapeE, shapeR, shapeO, shapeD, shapeM, shapeN, shapeA, shapeZ, shapeQ, hasLetter, firstShape}
 use Rattle.meaning.specs.Records.{_!_, commandOf}
 use Rattle.meaning.specs.Reading.{wrong}
 use Rattle.records.specs.Said.{typeOf, ruleOf, periodOf}
@@ -79,12 +79,12 @@ module _ (v : List ℕ) (c : ℕ) (z : Row) where
 
   pub made-Q : (o : ℕ) → z ≡ zeroRow → o ≡ v ! 2 % 256 → c ≡ v ! 0 % 256
       → record {
-          csd = c;
-          day = v ! 1;
-          what = What.Ask (record { csd = c; day = v ! 1; object = o; role = v ! 3; movement = v ! 4; payment = v ! 5; transaction = v ! 6; currency = v ! 7; party = v ! 8; account = v ! 9; security = v ! 10 });
-          row = z;
-        }
-        ≡ commandFrom letterQ v
+        csd = c;
+        day = v ! 1;
+        what = What.Ask (record { csd = c; day = v ! 1; object = o; role = v ! 3; movement = v ! 4; payment = v ! 5; transaction = v ! 6; currency = v ! 7; party = v ! 8; account = v ! 9; security = v ! 10 });
+        row = z;
+      }
+      ≡ commandFrom letterQ v
   unfolding coded commandOf
   made-Q o e f g = rw (e, f, g)
 
@@ -107,31 +107,63 @@ abbrev pub NoneOf : List ℕ → ℕ → Type 0
 NoneOf [] n = Unit {0}
 NoneOf (k ∷ ks) n = NoneOf ks n × (n ≡ k → ⊥)
 
--- a list behind another's bytes in turn
-abbrev after : List ℕ → List ℕ → List ℕ
+-- the byte of a letter
+abbrev pub letterByte : Letter → ℕ
+letterByte l = getD (letterText l) 0 0
+
+pub one-byte : (l : Letter) → letterText l ≡ letterByte l ∷ []
+one-byte letterT = refl
+one-byte letterE = refl
+one-byte letterR = refl
+one-byte letterO = refl
+one-byte letterD = refl
+one-byte letterM = refl
+one-byte letterN = refl
+one-byte letterA = refl
+one-byte letterZ = refl
+one-byte letterQ = refl
+
+pub letter-for : (l : Letter) → letterFor (letterByte l) ≡ l
+unfolding letterFor
+letter-for letterT = refl
+letter-for letterE = refl
+letter-for letterR = refl
+letter-for letterO = refl
+letter-for letterD = refl
+letter-for letterM = refl
+letter-for letterN = refl
+letter-for letterA = refl
+letter-for letterZ = refl
+letter-for letterQ = refl
+
+has-byte : (n : ℕ) (s : Shape) → hasLetter (n ∷ []) s ≡ eqb n (letterByte (s .letter))
+has-byte n s = ap (same (n ∷ [])) (one-byte (s .letter)) ∙ and-true (eqb n (letterByte (s .letter)))
+
+-- rows behind others in turn
+abbrev after : List Shape → List Shape → List Shape
 after [] l = l
-after (k ∷ ks) l = after ks (k ∷ l)
+after (s ∷ ss) l = after ss (s ∷ l)
 
--- a byte that is none of the first ones stands among those behind them
-place-after : (n : ℕ) (ks l : List ℕ) → NoneOf ks n → place n (after ks l) ≡ length ks + place n l
-place-after n [] l r = omega arith
-place-after n (k ∷ ks) l r =
-    let e : eqb k n ≡ false = ne-eqb k n (λ e. r .1 (sym e)) in
-    place-after n ks (k ∷ l) (r .0) ∙ rw e (omega arith)
+-- rows of other letters are passed over
+passed : (n : ℕ) (ss l : List Shape) → NoneOf (map (λ s. letterByte (s .letter)) ss) n
+    → firstShape (hasLetter (n ∷ [])) (after ss l) ≡ firstShape (hasLetter (n ∷ [])) l
+unfolding firstShape
+passed n [] l r = refl
+passed n (s ∷ ss) l r = passed n ss (s ∷ l) (r .0) ∙ rw (has-byte n s ∙ ne-eqb n (letterByte (s .letter)) (r .1))
 
-abbrev before-Q : List ℕ
-before-Q = bytes "ZANMDORET"
-
-none-Q : (n : ℕ) → NoneOf before-Q n → letterFor n ≡ letterQ
+-- none of the bytes before Q's
+none-Q : (n : ℕ) → NoneOf (bytes "ZANMDORET") n → letterFor n ≡ letterQ
+unfolding letterFor
 none-Q n r =
-    let p = place-after n before-Q (bytes "Q") r in
-    ap (λ k. orQuestion (letterAt k)) p ∙ cases (eqb 81 n) (λ e. rw e) (λ e. rw e)
+    ap orQuestion
+    (passed n (shapeZ ∷ shapeA ∷ shapeN ∷ shapeM ∷ shapeD ∷ shapeO ∷ shapeR ∷ shapeE ∷ shapeT ∷ []) (shapeQ ∷ []) r)
+    ∙ cases (hasLetter (n ∷ []) shapeQ) (λ e. rw e) (λ e. rw e)
 
 module _ (v : List ℕ) (n : ℕ) (x : Command) where
-  pub arm : (k : ℕ) → n ≡ k → x ≡ commandFrom (letterFor k) v → x ≡ commandFrom (letterFor n) v
-  arm k e f = rw e f
+  pub arm : (l : Letter) → x ≡ commandFrom l v → n ≡ letterByte l → x ≡ commandFrom (letterFor n) v
+  arm l e f = rw (f, letter-for l) e
 
-  pub last-arm : NoneOf before-Q n → x ≡ commandFrom letterQ v → x ≡ commandFrom (letterFor n) v
+  pub last-arm : NoneOf (bytes "ZANMDORET") n → x ≡ commandFrom letterQ v → x ≡ commandFrom (letterFor n) v
   last-arm r f = rw (none-Q n r) f
 
 -- ---- refusal 5 of a command

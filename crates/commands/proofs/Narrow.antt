@@ -1,6 +1,6 @@
 -- A command whose one-byte fields are below 256 is coded as itself, and so is what is read of a line.
 use Prim.Native.Nat.{ℕ, _%_, _<_}
-use mathlib.Core.Path.{_≡_, refl, sym}
+use mathlib.Core.Path.{_≡_, refl, sym, _∙_}
 use mathlib.Core.Bool.{true}
 use mathlib.Core.List.{List}
 use native.Mathlib.Omega.{arith}
@@ -8,9 +8,10 @@ use lib.ListN.{length, getD}
 use borrow.Author.Tests.{leb-true}
 use Rattle.tables.proofs.Counts.{ands}
 use Rattle.meaning.specs.Fields.{within}
-use Rattle.meaning.specs.Forms.{holds, holdsAll, day, formsOf, Letter, letterT, letterE, letterR, letterO, letterD, letterM, letterN, letterA, letterZ, letterQ}
+use Rattle.meaning.specs.Forms.{holds, holdsAll, day, Letter, Shape, shapes, shapeT, shapeE, shapeR, shapeO, shapeD, shapeM, shapeN, shapeA, shapeZ, shapeQ}
 use Rattle.meaning.specs.Records as M
 use Rattle.meaning.specs.Records.{_!_, commandOf}
+use Rattle.meaning.proofs.Shapes.{Ranged, by-rows}
 use Rattle.meaning.proofs.Ranges.{holds-at}
 use Rattle.records.specs.Said.{typeOf, ruleOf, rowOf, periodOf}
 use Rattle.commands.specs.Asked.{questionOf, askedBy, asked, coded}
@@ -55,8 +56,48 @@ asked-coded c d (M.ask q) o = rw (low-same (q .object) o)
 below : (m n : ℕ) → m < 256 → within 1 m n ≡ true → n < 256
 below m n l e = omega (arith, leb-true n m (search ands))
 
-pub narrow-read : (l : Letter) (v : List ℕ) → holdsAll (formsOf l) v ≡ true → Narrow (v ! 1) (commandOf l v)
-unfolding commandOf formsOf holds
-narrow-read letterT v e =
-    let h = holds-at (formsOf letterT) v e in
-    (refl, (below 99 (v ! 2) (omega arith) (h 2 (omega arith)), (below 2 (v ! 3) (omega arith) (h 3 (omega arith)), below 3 (v ! 4) (omega arith) (h 4 (omega arith)))))
+-- by a row's forms
+abbrev Read : List ℕ → Shape → Type 0
+Read v s = holdsAll (s .forms) v ≡ true → Narrow (v ! 1) (commandOf (s .letter) v)
+
+pub narrow-read : (l : Letter) (v : List ℕ) → Ranged l v → Narrow (v ! 1) (commandOf l v)
+unfolding shapes commandOf holds
+narrow-read l v r =
+    by-rows (λ l v. Narrow (v ! 1) (commandOf l v))
+    (read-T, (read-E, (read-R, (read-O, (read-D, (read-M, (read-N, (read-A, (read-Z, (read-Q, tt))))))))))
+    r
+  where
+    -- the number at a place, whose form is from 1 to m
+    byte : (s : Shape) (i m : ℕ) → holdsAll (s .forms) v ≡ true → i < length (s .forms)
+        → holds (getD (s .forms) i day) (v ! i) ≡ within 1 m (v ! i) → m < 256 → v ! i < 256
+    byte s i m e l f k = below m (v ! i) k (sym f ∙ holds-at (s .forms) v e i l)
+
+    read-T : Read v shapeT
+    read-T e = (refl, byte shapeT 2 99 e (omega arith) refl (omega arith), byte shapeT 3 2 e (omega arith) refl (omega arith), byte shapeT 4 3 e (omega arith) refl (omega arith))
+
+    read-E : Read v shapeE
+    read-E e = (refl, byte shapeE 2 99 e (omega arith) refl (omega arith), byte shapeE 3 2 e (omega arith) refl (omega arith))
+
+    read-R : Read v shapeR
+    read-R e = (refl, (byte shapeR 2 99 e (omega arith) refl (omega arith), byte shapeR 3 2 e (omega arith) refl (omega arith), byte shapeR 4 99 e (omega arith) refl (omega arith)), byte shapeR 5 2 e (omega arith) refl (omega arith))
+
+    read-O : Read v shapeO
+    read-O e = ((byte shapeO 2 99 e (omega arith) refl (omega arith), byte shapeO 3 2 e (omega arith) refl (omega arith), byte shapeO 4 99 e (omega arith) refl (omega arith)), byte shapeO 5 99 e (omega arith) refl (omega arith))
+
+    read-D : Read v shapeD
+    read-D e = (byte shapeD 2 99 e (omega arith) refl (omega arith), byte shapeD 3 2 e (omega arith) refl (omega arith), byte shapeD 4 99 e (omega arith) refl (omega arith))
+
+    read-M : Read v shapeM
+    read-M e = (byte shapeM 2 99 e (omega arith) refl (omega arith), byte shapeM 3 2 e (omega arith) refl (omega arith), byte shapeM 4 99 e (omega arith) refl (omega arith))
+
+    read-N : Read v shapeN
+    read-N e = (byte shapeN 2 99 e (omega arith) refl (omega arith), byte shapeN 3 2 e (omega arith) refl (omega arith), byte shapeN 4 99 e (omega arith) refl (omega arith))
+
+    read-A : Read v shapeA
+    read-A e = (refl, byte shapeA 2 3 e (omega arith) refl (omega arith))
+
+    read-Z : Read v shapeZ
+    read-Z e = (refl, byte shapeZ 2 3 e (omega arith) refl (omega arith))
+
+    read-Q : Read v shapeQ
+    read-Q e = byte shapeQ 2 2 e (omega arith) refl (omega arith)

@@ -5,7 +5,7 @@ use mathlib.Core.Bool.{Bool, not, cond, _&&_, _||_}
 use mathlib.Core.List.{List, [], _∷_}
 use mathlib.Core.Option.{Option, some, none}
 use lib.ListN.{replicate}
-use Rattle.meaning.specs.Forms.{Letter, letterQ, letterOf}
+use Rattle.meaning.specs.Forms.{Letter, letterQ, Shape, shapes, hasLetter, firstShape}
 use Rattle.meaning.specs.Records as M
 use Rattle.meaning.specs.Records.{_!_, commandOf}
 use Rattle.places.specs.Layout.{zeroRow}
@@ -124,14 +124,15 @@ coded c day k = record { csd = c; day = day; what = whatOf c k; row = rowBeside 
 
 -- ---- by letter
 
--- what is no letter of the table is taken for Q
-abbrev pub orQuestion : Option Letter → Letter
+-- the letter of a row; what is no row of the table is taken for Q
+abbrev pub orQuestion : Option Shape → Letter
 orQuestion none = letterQ
-orQuestion (some l) = l
+orQuestion (some s) = s .letter
 
 -- the letter of a byte
-abbrev pub letterFor : ℕ → Letter
-letterFor n = orQuestion (letterOf (n ∷ []))
+unfoldable pub letterFor : ℕ → Letter
+unfolding firstShape shapes
+letterFor n = orQuestion (firstShape (hasLetter (n ∷ [])) shapes)
 
 -- what a line of that letter asks, by the numbers of its fields: 0 the csd, 1 the day
 abbrev pub commandFrom : Letter → List ℕ → Command

@@ -13,23 +13,23 @@ ghost use Rattle.meaning.specs.Forms.{letterT, letterE, letterR, letterO, lette
 ghost use Rattle.meaning.specs.Records.{_!_, commandOf};
 ghost use Rattle.commands.specs.Asked.{coded, rowBeside, commandFrom, letterFor};
 
-pub const T: u8 = b'T';
+const T: u8 = b'T';
 
-pub const E: u8 = b'E';
+const E: u8 = b'E';
 
-pub const R: u8 = b'R';
+const R: u8 = b'R';
 
-pub const O: u8 = b'O';
+const O: u8 = b'O';
 
-pub const D: u8 = b'D';
+const D: u8 = b'D';
 
-pub const M: u8 = b'M';
+const M: u8 = b'M';
 
-pub const N: u8 = b'N';
+const N: u8 = b'N';
 
-pub const A: u8 = b'A';
+const A: u8 = b'A';
 
-pub const Z: u8 = b'Z';
+const Z: u8 = b'Z';
 
 fn add_type(v: [u32; 16]) -> Command
     ensures { λ r. ⌜ r ≡ commandFrom letterT v ⌝ }

@@ -55,13 +55,6 @@ pub struct Command {
     pub row: Row,
 }
 
-// Objects, and the processing that only instructions have.
-const INSTRUCTION: u8 = 1;
-
-const RESTRICTION: u8 = 2;
-
-const PARTY_HOLD: u8 = 3;
-
 // What no single field shows of refusal 5.
 pub fn is_wrong(c: Command) -> bool
     ensures { λ r. ⌜ r ≡ wrong (asked c) ⌝ }
@@ -70,7 +63,10 @@ pub fn is_wrong(c: Command) -> bool
     match what {
         // Party hold is for instructions, and first is not after last.
         What::AddType(t) => {
-            let held = and(t.processing == PARTY_HOLD, t.object == RESTRICTION);
+            let held = and(
+                t.processing == RestrictionType::PARTY_HOLD,
+                t.object == RestrictionType::RESTRICTION,
+            );
             or(held, t.last < t.first)
         }
         What::EndType(_, _, _) => false,
@@ -86,7 +82,7 @@ pub fn is_wrong(c: Command) -> bool
             let movement = q.movement == 0;
             let payment = q.payment == 0;
             choose(
-                q.object == INSTRUCTION,
+                q.object == RestrictionType::INSTRUCTION,
                 or(movement, payment),
                 no(and(movement, payment)),
             )

@@ -3,31 +3,13 @@ use Rattle.commands.proofs.Decoded.{made-N}
 use borrow.Author.Needs.{needs}
 use Rattle.commands.proofs.letters.delete_row.Statement.{statement}
 use Rattle.commands.proofs.letters.delete_row.Tie as tie
-use Rattle.commands.proofs.letters.delete_row.Reads as reads
-use Rattle.commands.proofs.letters.delete_row.Lts as lts
-use Rattle.basics.proofs.low.Reads as low-reads
-use Rattle.commands.proofs.letters.row_of.Reads as row-of-reads
-
--- src/letters.rt:143:18
-array-read-low : tie.Need-array-read-low
-array-read-low c = search needs
-
--- src/letters.rt:143:14
-low-requires : tie.Need-low-requires
-low-requires c κs = search needs
-
--- src/letters.rt:144:14
-array-read-t9 : tie.Need-array-read-t9
-array-read-t9 c = search needs
-
--- src/letters.rt:146:14
-row-of-requires : tie.Need-row-of-requires
-row-of-requires c κs = search needs
-
--- src/letters.rt:139:1
-returns : tie.Need-returns
-returns c = search made-N
 
 pub delete-row-spec : {M : Type 1} → statement M
 delete-row-spec =
-    tie.close (tie.spec array-read-low low-requires array-read-t9 row-of-requires returns)
+    tie.close
+    (tie.spec
+    (λ c. search needs)
+    (λ c κs. search needs)
+    (λ c. search needs)
+    (λ c κs. search needs)
+    (λ c. search made-N))
