@@ -16,6 +16,14 @@ WHAT = {
     "Row": "A row of a rule: its ten values, 0 where empty.",
     "Period": "An attribute period: the days on which a party, an account or a security hasCode a code.",
 }
+# numbers that a field may hold, by name, as document 01 names them
+NAMED = {
+    "RestrictionType": [("INSTRUCTION", 1), ("RESTRICTION", 2), ("REJECTION", 1), ("VALIDATION_HOLD", 2), ("PARTY_HOLD", 3)],
+    "Rule": [("POSITIVE", 1), ("NEGATIVE", 2)],
+    "Row": [],
+    "Period": [("PARTY", 1), ("ACCOUNT", 2), ("SECURITY", 3)],
+}
+SAID = {"RestrictionType": "Objects, then processings.", "Rule": "Signs.", "Period": "Kinds."}
 W = {1: "one", 2: "two", 3: "three", 4: "four"}
 C = "crates/places"
 S = "crates/stores"
@@ -41,22 +49,24 @@ for s, n, places, quota, fields in TABLES:
 
 # ---- the code
 code = open("tools/places.head.txt").read()
-code = code.replace("LAYOUT", ", ".join(f"{n}At, zero{n.capitalize()}" for _, n, *_ in layout))
+code = code.replace("BYTES", str(start)).replace("LAYOUT", ", ".join(f"{n}At, zero{n.capitalize()}" for _, n, *_ in layout))
 store = open("tools/stores.head.txt").read()
 store = store.replace("LAYOUT", ", ".join(f"put{n.capitalize()}" for _, n, *_ in layout))
 store = store.replace("USES", "".join(f"use places::{s};\n" for s in sorted(s for s, *_ in layout)))
 for s, n, places, quota, fields, nums, size, at0 in layout:
-    addr = f"(i as u32) * {size}" if at0 == 0 else f"{at0} + (i as u32) * {size}"
+    addr = f"address({s}::START, {s}::WIDTH, i)"
+    named = "".join(f"    pub const {c}: u8 = {k};\n" for c, k in NAMED[s])
+    named = f"\n    // {SAID[s]}\n{named}" if named else ""
     code += f"\n// {WHAT[s]}\npub struct {s} {{\n"
     for f, w in fields:
         code += f"    pub {f}: " + ("[u32; 10]" if isinstance(w, list) else "u8" if w == 1 else "u32") + ",\n"
-    code += f"}}\n\nimpl {s} {{\n    pub const QUOTA: u16 = {quota};\n    pub const PLACES: u16 = {places};\n\n    // What stands at a free place.\n    pub fn zero() -> {s}\n        ensures {{ λ r. ⌜ r ≡ zero{n.capitalize()} ⌝ }}\n    {{\n        {s} {{\n"
+    code += f"}}\n\nimpl {s} {{\n    pub const QUOTA: u16 = {quota};\n    pub const PLACES: u16 = {places};\n\n    // The address of the first place, and the bytes of each.\n    pub const START: u16 = {at0};\n    pub const WIDTH: u8 = {size};\n{named}\n    // What stands at a free place.\n    pub fn zero() -> {s}\n        ensures {{ λ r. ⌜ r ≡ zero{n.capitalize()} ⌝ }}\n    {{\n        {s} {{\n"
     code += "".join(f"            {f}: {'[0; 10]' if isinstance(w, list) else '0'},\n" for f, w in fields) + "        }\n    }\n"
     ty = lambda w: "[u32; 10]" if isinstance(w, list) else "u8" if w == 1 else "u32"
     code += f"\n    pub fn new(" + ", ".join(f"{f}: {ty(w)}" for f, w in fields) + f") -> {s}\n"
     code += "        ensures { λ r. ⌜ r ≡ record { " + "; ".join(f"{f} = {f}" for f, _ in fields) + " } ⌝ }\n    {\n"
     code += f"        {s} {{\n" + "".join(f"            {f},\n" for f, _ in fields) + "        }\n    }\n}\n"
-    code += f"\n// Whose the place is, 0 where it is free.\npub fn {n}_csd(b: &[u8], i: u16) -> u8\n    ensures {{ λ r. ⌜ r ≡ {n}At (now (b .entry)) i .csd ⌝ }}\n{{\n    let start = {addr};\n    byte_at(b, start, 0)\n}}\n"
+    code += f"\n// Whose the place is, 0 where it is free.\npub fn {n}_csd(b: &[u8], i: u16) -> u8\n    ensures {{ λ r. ⌜ r ≡ {n}At (now (b .entry)) i .csd ⌝ }}\n{{\n    byte_at(b, {addr}, 0)\n}}\n"
     def read(f, k, w, j):
         r = f"{W[w]}_at(b, at, {j})"
         return f"byte_at(b, at, {j})" if w == 1 and k is None else r
@@ -109,7 +119,8 @@ for s, n, places, quota, fields, nums, size, at0 in layout:
     N = n.capitalize()
     spec += f"\n-- ---- {places} places of {size} bytes, from {at0}\n"
     spec += f"\nabbrev pub {n}Places : ℕ\n{n}Places = {places}\n"
-    spec += f"\nabbrev pub {n}Start : ℕ → ℕ\n{n}Start i = " + (f"i * {size}" if at0 == 0 else f"{at0} + i * {size}") + "\n"
+    spec += f"\nabbrev pub {n}Base : ℕ\n{n}Base = {at0}\n\nabbrev pub {n}Width : ℕ\n{n}Width = {size}\n"
+    spec += f"\nabbrev pub {n}Start : ℕ → ℕ\n{n}Start i = {n}Base + i * {n}Width\n"
     spec += f"\nabbrev pub {n}Widths : List Width\n{n}Widths = " + " ∷ ".join(W[x[2]] for x in nums) + " ∷ []\n"
     spec += f"\nabbrev pub {n}From : List ℕ → {s}\n{n}From v = record {{\n  "
     spec += ";\n  ".join(f"{f} = drop {k} v" if isinstance(w, list) else f"{f} = getD v {k} 0" for k, (f, w) in enumerate(fields)) + ";\n}\n"
@@ -133,12 +144,12 @@ USES
 for s, n, places, quota, fields, nums, size, at0 in layout:
     xs = [f"x{j}" for *_, j in nums]
     arr = " ∷ ".join(f"x{j}" for f, k, w, j in nums if k is not None)
-    law += f"\npub {n}-read : (b : List ℕ) (i {' '.join(xs)} : ℕ) → "
-    law += " → ".join(f"x{j} ≡ number {W[w]} b ({n}Start i) {j}" for f, k, w, j in nums)
+    law += f"\npub {n}-read : (b : List ℕ) (i at {' '.join(xs)} : ℕ) → at ≡ {n}Start i → "
+    law += " → ".join(f"x{j} ≡ number {W[w]} b at {j}" for f, k, w, j in nums)
     rec = "; ".join([f"{f} = x{j}" for f, k, w, j in nums if k is None] + ([f"values = {arr} ∷ []"] if arr else []))
     law += f" → _≡_ {{A = {s}}} (record {{ {rec} }}) ({n}At b i)\nunfolding {n}At\n"
     hs = [f"h{j}" for *_, j in nums]
-    law += f"{n}-read b i {' '.join(xs)} {' '.join(hs)} = rw ({', '.join(hs)})\n"
+    law += f"{n}-read b i at {' '.join(xs)} e {' '.join(hs)} = rw ({', '.join(hs)}, e)\n"
 write(f"{C}/proofs/Reading.antt", law)
 
 # ---- storing: one store after the other stores the record
@@ -159,8 +170,8 @@ days-put b b0 b1 at j first last h1 h0 = rw (h1, h0) (simp add-assoc)
 """.replace("LAYOUT", ", ".join(f"{n}Start, put{n.capitalize()}" for _, n, *_ in layout)).replace("USES", "\n".join(f"use Rattle.places.specs.declared.{s}.{{{s}}}" for s, *_ in layout))
 def bytes_of(group, val):
     return "(bytesOf (" + " ∷ ".join(W[x[2]] for x in group) + " ∷ []) (" + " ∷ ".join(val(x) for x in group) + " ∷ []))"
-def chain(name, binders, at, steps, result, unfold):
-    """steps: offset, what is stored, and the number that `wide` was given"""
+def chain(name, binders, at, steps, result, unfold, start=""):
+    """steps: offset, what is stored, and the number that `wide` was given; start: the address of the place"""
     wides = [f"w{m}" for m, st in enumerate(steps) if len(st) == 3]
     binders += f" ({' '.join(wides)} : ℕ)" if wides else ""
     t = f"\npub {name} : (b {' '.join(f'b{m}' for m in range(len(steps)))} : List ℕ) {binders} → "
@@ -173,6 +184,10 @@ def chain(name, binders, at, steps, result, unfold):
             t += f"w{m} ≡ {wide[0]} → "
             args.append(f"e{m}")
             order.append(f"e{m}")
+    if start:
+        t += f"at ≡ {start} → "
+        args.append("e")
+        order.append("e")
     vs = []
     for part in binders.split(")"):
         if "(" in part:
@@ -202,7 +217,7 @@ for s, n, places, quota, fields, nums, size, at0 in layout:
         steps.append((half[0][3], bytes_of(half, val)))
     if days:
         steps.append((rest[-2][3], bytes_of(rest[-2:], val)))
-    law += chain(f"{n}-put", f"(i : ℕ) (r : {s})", f"({n}Start i)", steps, f"put{n.capitalize()} b i r", f"put{n.capitalize()}")
+    law += chain(f"{n}-put", f"(i at : ℕ) (r : {s})", "at", steps, f"put{n.capitalize()} b i r", f"put{n.capitalize()}", f"{n}Start i")
 write(f"{S}/proofs/Storing.antt", law)
 write(f"{S}/proofs/Lib.antt", "pub mod Storing\n")
 write(f"{C}/proofs/Lib.antt", "pub mod Numbers\npub mod Reading\npub mod Stores\n")
@@ -223,7 +238,7 @@ use Rattle.tables.proofs.Bytes.{length-puts, numbers-put, numbers-before, numbe
 use Rattle.places.specs.Layout.{LAYOUT}
 USES
 -- the ten values of a row
-""".replace("LAYOUT", ", ".join(f"{n}Start, {n}Widths, {n}From, {n}Numbers, {n}At, put{n.capitalize()}" for _, n, *_ in layout)).replace("USES", "\n".join(f"use Rattle.places.specs.declared.{s}.{{{s}}}" for s, *_ in layout))
+""".replace("LAYOUT", ", ".join(f"{n}Places, {n}Width, {n}Start, {n}Widths, {n}From, {n}Numbers, {n}At, put{n.capitalize()}" for _, n, *_ in layout)).replace("USES", "\n".join(f"use Rattle.places.specs.declared.{s}.{{{s}}}" for s, *_ in layout))
 law += "pub ten : (v : List ℕ) → length v ≡ 10 → " + " ∷ ".join(f"getD v {k} 0" for k in range(10)) + " ∷ [] ≡ v\n"
 for k in range(10):
     law += "ten (" + "".join(f"x{m} ∷ " for m in range(k)) + "[]) e = absurd (omega arith)\n"
@@ -234,9 +249,9 @@ for s, n, places, quota, fields, nums, size, at0 in layout:
     arr = any(x[1] is not None for x in nums)
     law += f"\nmodule _ (b : List ℕ) (i : ℕ) (r : {s}) where\n"
     law += f"  pub length-{n} : length (put{N} b i r) ≡ length b\n  unfolding put{N}\n  length-{n} = length-puts (bytesOf {n}Widths ({n}Numbers r)) b ({n}Start i) 0\n"
-    law += f"\n  {n}-bytes : length (bytesOf {n}Widths ({n}Numbers r)) ≡ {size}\n  unfolding digits bytesOf\n  {n}-bytes = refl\n"
+    law += f"\n  {n}-bytes : length (bytesOf {n}Widths ({n}Numbers r)) ≡ {n}Width\n  unfolding digits bytesOf\n  {n}-bytes = refl\n"
     back = "length (r .values) ≡ 10 → " if arr else ""
-    law += f"\n  pub {n}-back : {back}Hold {n}Widths ({n}Numbers r) → {n}Start i + {size} ≤ length b → {n}At (put{N} b i r) i ≡ r\n  unfolding {n}At put{N}\n"
+    law += f"\n  pub {n}-back : {back}Hold {n}Widths ({n}Numbers r) → {n}Start i + {n}Width ≤ length b → {n}At (put{N} b i r) i ≡ r\n  unfolding {n}At put{N}\n"
     put = f"ap {n}From (numbers-put {n}Widths ({n}Numbers r) b ({n}Start i) 0 h fits)"
     law += f"  {n}-back {'len ' if arr else ''}h fits = {put}" + (f" ∙ (λ k. record {{ csd = r .csd; number = r .number; object = r .object; sequence = r .sequence; values = ten (r .values) len k }})" if arr else "") + "\n"
     law += f"""
@@ -257,7 +272,7 @@ for s, n, places, quota, fields, nums, size, at0 in layout:
             continue
         way, fact = ("before", "omega arith") if at2 < at0 else ("behind", f"omega (arith, {n}-bytes)")
         law += f"""
-  pub {n2}-by-{n} : i < {places} → (k : ℕ) → k < {places2} → {n2}At (put{N} b i r) k ≡ {n2}At b k
+  pub {n2}-by-{n} : i < {n}Places → (k : ℕ) → k < {n2}Places → {n2}At (put{N} b i r) k ≡ {n2}At b k
   unfolding {n2}At put{N}
   {n2}-by-{n} h k l = ap {n2}From (numbers-{way} {n2}Widths (bytesOf {n}Widths ({n}Numbers r)) b ({n2}Start k) ({n}Start i) ({fact}))
 """
@@ -266,16 +281,17 @@ write(f"{C}/proofs/Stores.antt", law)
 
 # ---- whose a place is
 for s, n, places, quota, fields, nums, size, at0 in layout:
-    needs = "    (λ c. search needs)\n" * (1 if at0 == 0 else 2)
     write(f"{C}/proofs/{n}_csd/Proof.antt", f"""-- `places::{n}_csd` meets its contract. Assumes nothing.
 use borrow.Author.Needs.{{needs}}
 use Rattle.places.specs.Layout.{{{n}At}}
+use Rattle.places.proofs.Numbers.{{byte-read}}
 use Rattle.places.proofs.{n}_csd.Statement.{{statement}}
 use Rattle.places.proofs.{n}_csd.Tie as tie
 
 pub {n}-csd-spec : {{M : Type 1}} → statement M
 unfolding {n}At
 {n}-csd-spec = tie.close (tie.spec
-{needs}    (λ c κs. search needs)
-    (λ c. c .byte-at .ensures))
+    (λ c κs. search needs)
+    (λ c κs. search needs)
+    (λ c. search byte-read))
 """)

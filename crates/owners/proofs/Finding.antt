@@ -10,7 +10,7 @@ use Rattle.tables.proofs.Counts.{cases, cases-eq}
 use mathlib.Core.List.{List}
 use lib.Dec.{eqb}
 use Rattle.tables.specs.Bytes.{byteAt}
-use Rattle.places.specs.Layout.{typeAt, ruleAt, rowAt, periodAt}
+use Rattle.places.specs.Layout.{typePlaces, typeBase, typeWidth, typeAt, rulePlaces, ruleBase, ruleWidth, ruleAt, rowPlaces, rowBase, rowWidth, rowAt, periodPlaces, periodBase, periodWidth, periodAt}
 use Rattle.owners.specs.Next.{firstFrom, next, Passed, owned, nextType, nextRule, nextRow, nextPeriod}
 
 module _ (p : ℕ → Bool) where
@@ -104,9 +104,6 @@ module _ (p : ℕ → Bool) where
 
 -- ---- addresses
 
-pub area : (i w : ℕ) → i < 65536 → w < 256 → i * w ≤ 16711425
-area i w l h = let a : i ≤ 65535 = omega arith in let b : w ≤ 255 = omega arith in mul-le-mul a b
-
 pub seven : (j w : ℕ) → j < 8 → j * w ≤ 7 * w
 seven j w l = let a : j ≤ 7 = omega arith in let b : w ≤ w = omega arith in mul-le-mul a b
 
@@ -144,18 +141,18 @@ same : (p q : ℕ → Bool) (places i : ℕ) → ((k : ℕ) → p k ≡ q k) →
 same p q places i h = ap (λ f. next f places i) (fun-ext h)
 
 module _ (b : List ℕ) (a i r : ℕ) where
-  pub next-type : r ≡ next (owned b 0 12 a) 128 i → r ≡ nextType b a i
+  pub next-type : r ≡ next (owned b typeBase typeWidth a) typePlaces i → r ≡ nextType b a i
   unfolding nextType typeAt
-  next-type e = e ∙ same _ (λ k. eqb (typeAt b k .csd) a) 128 i (λ k. ap (λ x. eqb (byteAt b x) a) (omega arith))
+  next-type e = e ∙ same _ (λ k. eqb (typeAt b k .csd) a) typePlaces i (λ k. ap (λ x. eqb (byteAt b x) a) (omega arith))
 
-  pub next-rule : r ≡ next (owned b 1536 15 a) 512 i → r ≡ nextRule b a i
+  pub next-rule : r ≡ next (owned b ruleBase ruleWidth a) rulePlaces i → r ≡ nextRule b a i
   unfolding nextRule ruleAt
-  next-rule e = e ∙ same _ (λ k. eqb (ruleAt b k .csd) a) 512 i (λ k. ap (λ x. eqb (byteAt b x) a) (omega arith))
+  next-rule e = e ∙ same _ (λ k. eqb (ruleAt b k .csd) a) rulePlaces i (λ k. ap (λ x. eqb (byteAt b x) a) (omega arith))
 
-  pub next-row : r ≡ next (owned b 9216 26 a) 1024 i → r ≡ nextRow b a i
+  pub next-row : r ≡ next (owned b rowBase rowWidth a) rowPlaces i → r ≡ nextRow b a i
   unfolding nextRow rowAt
-  next-row e = e ∙ same _ (λ k. eqb (rowAt b k .csd) a) 1024 i (λ k. ap (λ x. eqb (byteAt b x) a) (omega arith))
+  next-row e = e ∙ same _ (λ k. eqb (rowAt b k .csd) a) rowPlaces i (λ k. ap (λ x. eqb (byteAt b x) a) (omega arith))
 
-  pub next-period : r ≡ next (owned b 35840 15 a) 1024 i → r ≡ nextPeriod b a i
+  pub next-period : r ≡ next (owned b periodBase periodWidth a) periodPlaces i → r ≡ nextPeriod b a i
   unfolding nextPeriod periodAt
-  next-period e = e ∙ same _ (λ k. eqb (periodAt b k .csd) a) 1024 i (λ k. ap (λ x. eqb (byteAt b x) a) (omega arith))
+  next-period e = e ∙ same _ (λ k. eqb (periodAt b k .csd) a) periodPlaces i (λ k. ap (λ x. eqb (byteAt b x) a) (omega arith))

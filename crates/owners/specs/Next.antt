@@ -5,7 +5,7 @@ use mathlib.Core.Bool.{Bool, false, cond}
 use mathlib.Core.List.{List}
 use lib.Dec.{eqb, leb}
 use Rattle.tables.specs.Bytes.{byteAt}
-use Rattle.places.specs.Layout.{typeAt, ruleAt, rowAt, periodAt}
+use Rattle.places.specs.Layout.{typePlaces, typeAt, rulePlaces, ruleAt, rowPlaces, rowAt, periodPlaces, periodAt}
 
 -- the first of n places from place i on where p holds; i + n where there is none
 unfoldable pub firstFrom : (ℕ → Bool) → ℕ → ℕ → ℕ
@@ -27,13 +27,13 @@ owned b start width a k = eqb (byteAt b (start + k * width)) a
 -- ---- for each table
 
 unfoldable pub nextType : List ℕ → ℕ → ℕ → ℕ
-nextType b a i = next (λ k. eqb (typeAt b k .csd) a) 128 i
+nextType b a i = next (λ k. eqb (typeAt b k .csd) a) typePlaces i
 
 unfoldable pub nextRule : List ℕ → ℕ → ℕ → ℕ
-nextRule b a i = next (λ k. eqb (ruleAt b k .csd) a) 512 i
+nextRule b a i = next (λ k. eqb (ruleAt b k .csd) a) rulePlaces i
 
 unfoldable pub nextRow : List ℕ → ℕ → ℕ → ℕ
-nextRow b a i = next (λ k. eqb (rowAt b k .csd) a) 1024 i
+nextRow b a i = next (λ k. eqb (rowAt b k .csd) a) rowPlaces i
 
 unfoldable pub nextPeriod : List ℕ → ℕ → ℕ → ℕ
-nextPeriod b a i = next (λ k. eqb (periodAt b k .csd) a) 1024 i
+nextPeriod b a i = next (λ k. eqb (periodAt b k .csd) a) periodPlaces i

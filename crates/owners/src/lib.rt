@@ -5,24 +5,12 @@ ghost use lib.Dec.{eqb};
 ghost use lib.ListN.{length};
 ghost use Rattle.tables.specs.Bytes.{byteAt};
 ghost use Rattle.owners.specs.Next.{firstFrom, owned, next, Passed, nextType, nextRule, nextRow, nextPeriod};
+use basics::byte_at;
 use places::Period;
 use places::RestrictionType;
 use places::Row;
 use places::Rule;
-
-// The address of a place of a table that starts at an address and has places of a width.
-fn address(start: u16, width: u8, i: u16) -> usize
-    ensures { λ r. ⌜ (r ≡ start + i * width) × (r ≤ 16776960) ⌝ }
-{
-    start as usize + i as usize * width as usize
-}
-
-// The byte at an address, 0 past the end.
-fn byte_at(b: &[u8], at: usize) -> u8
-    ensures { λ r. ⌜ r ≡ byteAt (now (b .entry)) at ⌝ }
-{
-    if at < b.len() { b[at] } else { 0 }
-}
+use places::address;
 
 // Which of eight places, the first at an address, is the first of depository a; 8 where none is.
 fn first_of_eight(b: &[u8], at: usize, width: u8, a: u8) -> u16
@@ -41,7 +29,7 @@ fn first_of_eight(b: &[u8], at: usize, width: u8, a: u8) -> u16
 fn eight_passed(b: &[u8], i: u16, start: u16, width: u8, a: u8) -> u16
     ensures { λ r. ⌜ (r ≤ 8) × Passed (owned (now (b .entry)) start width a) i (i + r) ⌝ }
 {
-    let at = address(start, width, i);
+    let at = address(start, width, i) as usize;
     if at + 7 * (width as usize) < b.len() {
         return first_of_eight(b, at, width, a);
     }
@@ -68,7 +56,7 @@ fn next(b: &[u8], i: u16, start: u16, width: u8, places: u16, a: u8) -> u16
 {
     let from = pass(b, i, start, width, places, a);
     for k in from..places {
-        if byte_at(b, address(start, width, k)) == a {
+        if byte_at(b, address(start, width, k) as usize) == a {
             return k;
         }
     }
@@ -80,23 +68,30 @@ fn next(b: &[u8], i: u16, start: u16, width: u8, places: u16, a: u8) -> u16
 pub fn next_type(b: &[u8], i: u16, a: u8) -> u16
     ensures { λ r. ⌜ r ≡ nextType (now (b .entry)) a i ⌝ }
 {
-    next(b, i, 0, 12, RestrictionType::PLACES, a)
+    next(
+        b,
+        i,
+        RestrictionType::START,
+        RestrictionType::WIDTH,
+        RestrictionType::PLACES,
+        a,
+    )
 }
 
 pub fn next_rule(b: &[u8], i: u16, a: u8) -> u16
     ensures { λ r. ⌜ r ≡ nextRule (now (b .entry)) a i ⌝ }
 {
-    next(b, i, 1536, 15, Rule::PLACES, a)
+    next(b, i, Rule::START, Rule::WIDTH, Rule::PLACES, a)
 }
 
 pub fn next_row(b: &[u8], i: u16, a: u8) -> u16
     ensures { λ r. ⌜ r ≡ nextRow (now (b .entry)) a i ⌝ }
 {
-    next(b, i, 9216, 26, Row::PLACES, a)
+    next(b, i, Row::START, Row::WIDTH, Row::PLACES, a)
 }
 
 pub fn next_period(b: &[u8], i: u16, a: u8) -> u16
     ensures { λ r. ⌜ r ≡ nextPeriod (now (b .entry)) a i ⌝ }
 {
-    next(b, i, 35840, 15, Period::PLACES, a)
+    next(b, i, Period::START, Period::WIDTH, Period::PLACES, a)
 }

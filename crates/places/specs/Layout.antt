@@ -18,8 +18,14 @@ bookSize = 51200
 abbrev pub typePlaces : ℕ
 typePlaces = 128
 
+abbrev pub typeBase : ℕ
+typeBase = 0
+
+abbrev pub typeWidth : ℕ
+typeWidth = 12
+
 abbrev pub typeStart : ℕ → ℕ
-typeStart i = i * 12
+typeStart i = typeBase + i * typeWidth
 
 abbrev pub typeWidths : List Width
 typeWidths = one ∷ one ∷ one ∷ one ∷ four ∷ four ∷ []
@@ -53,8 +59,14 @@ zeroType = record { csd = 0; number = 0; object = 0; processing = 0; first = 0; 
 abbrev pub rulePlaces : ℕ
 rulePlaces = 512
 
+abbrev pub ruleBase : ℕ
+ruleBase = 1536
+
+abbrev pub ruleWidth : ℕ
+ruleWidth = 15
+
 abbrev pub ruleStart : ℕ → ℕ
-ruleStart i = 1536 + i * 15
+ruleStart i = ruleBase + i * ruleWidth
 
 abbrev pub ruleWidths : List Width
 ruleWidths = one ∷ one ∷ one ∷ one ∷ one ∷ two ∷ four ∷ four ∷ []
@@ -90,8 +102,14 @@ zeroRule = record { csd = 0; number = 0; object = 0; sequence = 0; sign = 0; cri
 abbrev pub rowPlaces : ℕ
 rowPlaces = 1024
 
+abbrev pub rowBase : ℕ
+rowBase = 9216
+
+abbrev pub rowWidth : ℕ
+rowWidth = 26
+
 abbrev pub rowStart : ℕ → ℕ
-rowStart i = 9216 + i * 26
+rowStart i = rowBase + i * rowWidth
 
 abbrev pub rowWidths : List Width
 rowWidths = one ∷ one ∷ one ∷ one ∷ one ∷ one ∷ one ∷ four ∷ three ∷ three ∷ two ∷ two ∷ two ∷ three ∷ []
@@ -125,8 +143,14 @@ zeroRow = record { csd = 0; number = 0; object = 0; sequence = 0; values = repli
 abbrev pub periodPlaces : ℕ
 periodPlaces = 1024
 
+abbrev pub periodBase : ℕ
+periodBase = 35840
+
+abbrev pub periodWidth : ℕ
+periodWidth = 15
+
 abbrev pub periodStart : ℕ → ℕ
-periodStart i = 35840 + i * 15
+periodStart i = periodBase + i * periodWidth
 
 abbrev pub periodWidths : List Width
 periodWidths = one ∷ one ∷ three ∷ two ∷ four ∷ four ∷ []

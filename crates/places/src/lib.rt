@@ -1,21 +1,26 @@
 // The records of the book by value, and their reading at a place. Written by tools/places.py.
 ghost use mathlib.Core.Path.{_≡_};
-ghost use Prim.Native.Nat.{_+_, _*_};
+ghost use Prim.Native.Nat.{_+_, _*_, _≤_};
 ghost use Rattle.tables.specs.Bytes.{byteAt, one, two, three, four, number};
 ghost use Rattle.places.specs.Layout.{typeAt, zeroType, ruleAt, zeroRule, rowAt, zeroRow, periodAt, zeroPeriod};
+use basics::wide;
 
-fn wide(x: u8) -> u32
-    ensures { λ r. ⌜ r ≡ x ⌝ }
+// The book's exact size in bytes (docs/typeAt, zeroType, ruleAt, zeroRule, rowAt, zeroRow, periodAt, zeroPeriod.md).
+pub const SIZE: usize = 51200;
+
+// The address of place i of a table that starts at an address and has places of a width.
+pub fn address(start: u16, width: u8, i: u16) -> u32
+    ensures { λ r. ⌜ r ≡ start + i * width ⌝ }
+    ensures { λ r. ⌜ r ≤ 16776960 ⌝ }
 {
-    x as u32
+    start as u32 + i as u32 * width as u32
 }
 
 // The byte at an offset from a place, 0 past the end.
 fn byte_at(b: &[u8], at: u32, j: u32) -> u8
     ensures { λ r. ⌜ r ≡ byteAt (now (b .entry)) (at + j) ⌝ }
 {
-    let i = at as usize + j as usize;
-    if i < b.len() { b[i] } else { 0 }
+    basics::byte_at(b, at as usize + j as usize)
 }
 
 // Numbers of one to four bytes, lowest first.
@@ -102,6 +107,22 @@ impl RestrictionType {
 
     pub const PLACES: u16 = 128;
 
+    // The address of the first place, and the bytes of each.
+    pub const START: u16 = 0;
+
+    pub const WIDTH: u8 = 12;
+
+    // Objects, then processings.
+    pub const INSTRUCTION: u8 = 1;
+
+    pub const RESTRICTION: u8 = 2;
+
+    pub const REJECTION: u8 = 1;
+
+    pub const VALIDATION_HOLD: u8 = 2;
+
+    pub const PARTY_HOLD: u8 = 3;
+
     // What stands at a free place.
     pub fn zero() -> RestrictionType
         ensures { λ r. ⌜ r ≡ zeroType ⌝ }
@@ -141,14 +162,17 @@ impl RestrictionType {
 pub fn type_csd(b: &[u8], i: u16) -> u8
     ensures { λ r. ⌜ r ≡ typeAt (now (b .entry)) i .csd ⌝ }
 {
-    let start = (i as u32) * 12;
-    byte_at(b, start, 0)
+    byte_at(
+        b,
+        address(RestrictionType::START, RestrictionType::WIDTH, i),
+        0,
+    )
 }
 
 pub fn type_at(b: &[u8], i: u16) -> RestrictionType
     ensures { λ r. ⌜ r ≡ typeAt (now (b .entry)) i ⌝ }
 {
-    let at = (i as u32) * 12;
+    let at = address(RestrictionType::START, RestrictionType::WIDTH, i);
     RestrictionType {
         csd: byte_at(b, at, 0),
         number: byte_at(b, at, 1),
@@ -175,6 +199,16 @@ impl Rule {
     pub const QUOTA: u16 = 64;
 
     pub const PLACES: u16 = 512;
+
+    // The address of the first place, and the bytes of each.
+    pub const START: u16 = 1536;
+
+    pub const WIDTH: u8 = 15;
+
+    // Signs.
+    pub const POSITIVE: u8 = 1;
+
+    pub const NEGATIVE: u8 = 2;
 
     // What stands at a free place.
     pub fn zero() -> Rule
@@ -221,14 +255,13 @@ impl Rule {
 pub fn rule_csd(b: &[u8], i: u16) -> u8
     ensures { λ r. ⌜ r ≡ ruleAt (now (b .entry)) i .csd ⌝ }
 {
-    let start = 1536 + (i as u32) * 15;
-    byte_at(b, start, 0)
+    byte_at(b, address(Rule::START, Rule::WIDTH, i), 0)
 }
 
 pub fn rule_at(b: &[u8], i: u16) -> Rule
     ensures { λ r. ⌜ r ≡ ruleAt (now (b .entry)) i ⌝ }
 {
-    let at = 1536 + (i as u32) * 15;
+    let at = address(Rule::START, Rule::WIDTH, i);
     Rule {
         csd: byte_at(b, at, 0),
         number: byte_at(b, at, 1),
@@ -254,6 +287,11 @@ impl Row {
     pub const QUOTA: u16 = 128;
 
     pub const PLACES: u16 = 1024;
+
+    // The address of the first place, and the bytes of each.
+    pub const START: u16 = 9216;
+
+    pub const WIDTH: u8 = 26;
 
     // What stands at a free place.
     pub fn zero() -> Row
@@ -285,14 +323,13 @@ impl Row {
 pub fn row_csd(b: &[u8], i: u16) -> u8
     ensures { λ r. ⌜ r ≡ rowAt (now (b .entry)) i .csd ⌝ }
 {
-    let start = 9216 + (i as u32) * 26;
-    byte_at(b, start, 0)
+    byte_at(b, address(Row::START, Row::WIDTH, i), 0)
 }
 
 pub fn row_at(b: &[u8], i: u16) -> Row
     ensures { λ r. ⌜ r ≡ rowAt (now (b .entry)) i ⌝ }
 {
-    let at = 9216 + (i as u32) * 26;
+    let at = address(Row::START, Row::WIDTH, i);
     let values = [
         one_at(b, at, 4),
         one_at(b, at, 5),
@@ -329,6 +366,18 @@ impl Period {
 
     pub const PLACES: u16 = 1024;
 
+    // The address of the first place, and the bytes of each.
+    pub const START: u16 = 35840;
+
+    pub const WIDTH: u8 = 15;
+
+    // Kinds.
+    pub const PARTY: u8 = 1;
+
+    pub const ACCOUNT: u8 = 2;
+
+    pub const SECURITY: u8 = 3;
+
     // What stands at a free place.
     pub fn zero() -> Period
         ensures { λ r. ⌜ r ≡ zeroPeriod ⌝ }
@@ -361,14 +410,13 @@ impl Period {
 pub fn period_csd(b: &[u8], i: u16) -> u8
     ensures { λ r. ⌜ r ≡ periodAt (now (b .entry)) i .csd ⌝ }
 {
-    let start = 35840 + (i as u32) * 15;
-    byte_at(b, start, 0)
+    byte_at(b, address(Period::START, Period::WIDTH, i), 0)
 }
 
 pub fn period_at(b: &[u8], i: u16) -> Period
     ensures { λ r. ⌜ r ≡ periodAt (now (b .entry)) i ⌝ }
 {
-    let at = 35840 + (i as u32) * 15;
+    let at = address(Period::START, Period::WIDTH, i);
     Period {
         csd: byte_at(b, at, 0),
         kind: byte_at(b, at, 1),

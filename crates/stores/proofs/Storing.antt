@@ -24,13 +24,13 @@ pub pair-put : (b b0 b1 : List ℕ) (at x y : ℕ) (w0 w1 : ℕ) → b1 ≡ puts
 unfolding puts digits bytesOf
 pair-put b b0 b1 at x y w0 w1 h1 e1 h0 e0 = rw (h1, h0, e1, e0)
 
-pub type-put : (b b0 b1 : List ℕ) (i : ℕ) (r : RestrictionType) → b1 ≡ puts b0 (typeStart i) 4 (bytesOf (four ∷ four ∷ []) ((r .first) ∷ (r .last) ∷ [])) → b0 ≡ puts b (typeStart i) 0 (bytesOf (one ∷ one ∷ one ∷ one ∷ []) ((r .csd) ∷ (r .number) ∷ (r .object) ∷ (r .processing) ∷ [])) → b1 ≡ putType b i r
+pub type-put : (b b0 b1 : List ℕ) (i at : ℕ) (r : RestrictionType) → b1 ≡ puts b0 at 4 (bytesOf (four ∷ four ∷ []) ((r .first) ∷ (r .last) ∷ [])) → b0 ≡ puts b at 0 (bytesOf (one ∷ one ∷ one ∷ one ∷ []) ((r .csd) ∷ (r .number) ∷ (r .object) ∷ (r .processing) ∷ [])) → at ≡ typeStart i → b1 ≡ putType b i r
 unfolding puts digits bytesOf putType
-type-put b b0 b1 i r h1 h0 = rw (h1, h0)
+type-put b b0 b1 i at r h1 h0 e = rw (h1, h0, e)
 
-pub rule-put : (b b0 b1 b2 b3 : List ℕ) (i : ℕ) (r : Rule) (w1 : ℕ) → b3 ≡ puts b2 (ruleStart i) 7 (bytesOf (four ∷ four ∷ []) ((r .first) ∷ (r .last) ∷ [])) → b2 ≡ puts b1 (ruleStart i) 5 (digits two (r .criteria)) → b1 ≡ puts b0 (ruleStart i) 4 (digits one w1) → w1 ≡ r .sign → b0 ≡ puts b (ruleStart i) 0 (bytesOf (one ∷ one ∷ one ∷ one ∷ []) ((r .csd) ∷ (r .number) ∷ (r .object) ∷ (r .sequence) ∷ [])) → b3 ≡ putRule b i r
+pub rule-put : (b b0 b1 b2 b3 : List ℕ) (i at : ℕ) (r : Rule) (w1 : ℕ) → b3 ≡ puts b2 at 7 (bytesOf (four ∷ four ∷ []) ((r .first) ∷ (r .last) ∷ [])) → b2 ≡ puts b1 at 5 (digits two (r .criteria)) → b1 ≡ puts b0 at 4 (digits one w1) → w1 ≡ r .sign → b0 ≡ puts b at 0 (bytesOf (one ∷ one ∷ one ∷ one ∷ []) ((r .csd) ∷ (r .number) ∷ (r .object) ∷ (r .sequence) ∷ [])) → at ≡ ruleStart i → b3 ≡ putRule b i r
 unfolding puts digits bytesOf putRule
-rule-put b b0 b1 b2 b3 i r w1 h3 h2 h1 e1 h0 = rw (h3, h2, h1, h0, e1)
+rule-put b b0 b1 b2 b3 i at r w1 h3 h2 h1 e1 h0 e = rw (h3, h2, h1, h0, e1, e)
 
 pub values-0-put : (b b0 b1 b2 : List ℕ) (x0 x1 x2 at : ℕ) → b2 ≡ puts b1 at 6 (digits one x2) → b1 ≡ puts b0 at 5 (digits one x1) → b0 ≡ puts b at 4 (digits one x0) → b2 ≡ puts b at 4 (bytesOf (one ∷ one ∷ one ∷ []) (x0 ∷ x1 ∷ x2 ∷ []))
 unfolding puts digits bytesOf
@@ -44,10 +44,10 @@ pub values-6-put : (b b0 b1 b2 b3 : List ℕ) (x6 x7 x8 x9 at : ℕ) → b3 ≡ 
 unfolding puts digits bytesOf
 values-6-put b b0 b1 b2 b3 x6 x7 x8 x9 at h3 h2 h1 h0 = rw (h3, h2, h1, h0)
 
-pub row-put : (b b0 b1 b2 b3 : List ℕ) (i : ℕ) (r : Row) → b3 ≡ puts b2 (rowStart i) 17 (bytesOf (two ∷ two ∷ two ∷ three ∷ []) ((getD (r .values) 6 0) ∷ (getD (r .values) 7 0) ∷ (getD (r .values) 8 0) ∷ (getD (r .values) 9 0) ∷ [])) → b2 ≡ puts b1 (rowStart i) 7 (bytesOf (four ∷ three ∷ three ∷ []) ((getD (r .values) 3 0) ∷ (getD (r .values) 4 0) ∷ (getD (r .values) 5 0) ∷ [])) → b1 ≡ puts b0 (rowStart i) 4 (bytesOf (one ∷ one ∷ one ∷ []) ((getD (r .values) 0 0) ∷ (getD (r .values) 1 0) ∷ (getD (r .values) 2 0) ∷ [])) → b0 ≡ puts b (rowStart i) 0 (bytesOf (one ∷ one ∷ one ∷ one ∷ []) ((r .csd) ∷ (r .number) ∷ (r .object) ∷ (r .sequence) ∷ [])) → b3 ≡ putRow b i r
+pub row-put : (b b0 b1 b2 b3 : List ℕ) (i at : ℕ) (r : Row) → b3 ≡ puts b2 at 17 (bytesOf (two ∷ two ∷ two ∷ three ∷ []) ((getD (r .values) 6 0) ∷ (getD (r .values) 7 0) ∷ (getD (r .values) 8 0) ∷ (getD (r .values) 9 0) ∷ [])) → b2 ≡ puts b1 at 7 (bytesOf (four ∷ three ∷ three ∷ []) ((getD (r .values) 3 0) ∷ (getD (r .values) 4 0) ∷ (getD (r .values) 5 0) ∷ [])) → b1 ≡ puts b0 at 4 (bytesOf (one ∷ one ∷ one ∷ []) ((getD (r .values) 0 0) ∷ (getD (r .values) 1 0) ∷ (getD (r .values) 2 0) ∷ [])) → b0 ≡ puts b at 0 (bytesOf (one ∷ one ∷ one ∷ one ∷ []) ((r .csd) ∷ (r .number) ∷ (r .object) ∷ (r .sequence) ∷ [])) → at ≡ rowStart i → b3 ≡ putRow b i r
 unfolding puts digits bytesOf putRow
-row-put b b0 b1 b2 b3 i r h3 h2 h1 h0 = rw (h3, h2, h1, h0)
+row-put b b0 b1 b2 b3 i at r h3 h2 h1 h0 e = rw (h3, h2, h1, h0, e)
 
-pub period-put : (b b0 b1 b2 b3 : List ℕ) (i : ℕ) (r : Period) → b3 ≡ puts b2 (periodStart i) 7 (bytesOf (four ∷ four ∷ []) ((r .first) ∷ (r .last) ∷ [])) → b2 ≡ puts b1 (periodStart i) 5 (digits two (r .code)) → b1 ≡ puts b0 (periodStart i) 2 (digits three (r .number)) → b0 ≡ puts b (periodStart i) 0 (bytesOf (one ∷ one ∷ []) ((r .csd) ∷ (r .kind) ∷ [])) → b3 ≡ putPeriod b i r
+pub period-put : (b b0 b1 b2 b3 : List ℕ) (i at : ℕ) (r : Period) → b3 ≡ puts b2 at 7 (bytesOf (four ∷ four ∷ []) ((r .first) ∷ (r .last) ∷ [])) → b2 ≡ puts b1 at 5 (digits two (r .code)) → b1 ≡ puts b0 at 2 (digits three (r .number)) → b0 ≡ puts b at 0 (bytesOf (one ∷ one ∷ []) ((r .csd) ∷ (r .kind) ∷ [])) → at ≡ periodStart i → b3 ≡ putPeriod b i r
 unfolding puts digits bytesOf putPeriod
-period-put b b0 b1 b2 b3 i r h3 h2 h1 h0 = rw (h3, h2, h1, h0)
+period-put b b0 b1 b2 b3 i at r h3 h2 h1 h0 e = rw (h3, h2, h1, h0, e)

@@ -5,22 +5,13 @@ ghost use lib.ListN.{set, getD};
 ghost use mathlib.Core.List.{[], _∷_};
 ghost use Rattle.tables.specs.Bytes.{one, two, three, four, digits, bytesOf, puts};
 ghost use Rattle.places.specs.Layout.{putType, putRule, putRow, putPeriod};
+use basics::low;
+use basics::wide;
 use places::Period;
 use places::RestrictionType;
 use places::Row;
 use places::Rule;
-
-fn wide(x: u8) -> u32
-    ensures { λ r. ⌜ r ≡ x ⌝ }
-{
-    x as u32
-}
-
-fn low(v: u32) -> u8
-    ensures { λ r. ⌜ r ≡ v % 256 ⌝ }
-{
-    (v % 256) as u8
-}
+use places::address;
 
 // Writes a byte at an offset from a place, and nothing past the end.
 fn put_byte(b: &mut [u8], at: u32, j: u32, v: u8)
@@ -94,7 +85,7 @@ fn put_days(b: &mut [u8], at: u32, j: u8, first: u32, last: u32)
 pub fn put_type(b: &mut [u8], i: u16, r: RestrictionType)
     ensures { λ _. ⌜ now (b .exit) ≡ putType (now (b .entry)) i r ⌝ }
 {
-    let at = (i as u32) * 12;
+    let at = address(RestrictionType::START, RestrictionType::WIDTH, i);
     put_head(b, at, r.csd, r.number, r.object, r.processing);
     put_days(b, at, 4, r.first, r.last);
 }
@@ -102,7 +93,7 @@ pub fn put_type(b: &mut [u8], i: u16, r: RestrictionType)
 pub fn put_rule(b: &mut [u8], i: u16, r: Rule)
     ensures { λ _. ⌜ now (b .exit) ≡ putRule (now (b .entry)) i r ⌝ }
 {
-    let at = 1536 + (i as u32) * 15;
+    let at = address(Rule::START, Rule::WIDTH, i);
     put_head(b, at, r.csd, r.number, r.object, r.sequence);
     put_one(b, at, 4, wide(r.sign));
     put_two(b, at, 5, r.criteria);
@@ -140,7 +131,7 @@ fn put_values_6(b: &mut [u8], at: u32, v: [u32; 10])
 pub fn put_row(b: &mut [u8], i: u16, r: Row)
     ensures { λ _. ⌜ now (b .exit) ≡ putRow (now (b .entry)) i r ⌝ }
 {
-    let at = 9216 + (i as u32) * 26;
+    let at = address(Row::START, Row::WIDTH, i);
     let values = r.values;
     put_head(b, at, r.csd, r.number, r.object, r.sequence);
     put_values_0(b, at, values);
@@ -151,7 +142,7 @@ pub fn put_row(b: &mut [u8], i: u16, r: Row)
 pub fn put_period(b: &mut [u8], i: u16, r: Period)
     ensures { λ _. ⌜ now (b .exit) ≡ putPeriod (now (b .entry)) i r ⌝ }
 {
-    let at = 35840 + (i as u32) * 15;
+    let at = address(Period::START, Period::WIDTH, i);
     put_pair(b, at, r.csd, r.kind);
     put_three(b, at, 2, r.number);
     put_two(b, at, 5, r.code);

@@ -22,6 +22,7 @@ next-spec =
     (λ c κs. search needs)
     (λ c. c .pass .ensures)
     (λ c κs. search needs)
+    (λ c. search needs)
     (λ c κs. search needs)
     (λ c.
     next-at _ _ _ _ (c .before .before .before .before .loop .inv .0) (c .before .before .before .loop-test .taken) (c .before .before .before .before .loop .inv .1)

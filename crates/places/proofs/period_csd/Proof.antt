@@ -1,13 +1,13 @@
 -- `places::period_csd` meets its contract. Assumes nothing.
 use borrow.Author.Needs.{needs}
 use Rattle.places.specs.Layout.{periodAt}
+use Rattle.places.proofs.Numbers.{byte-read}
 use Rattle.places.proofs.period_csd.Statement.{statement}
 use Rattle.places.proofs.period_csd.Tie as tie
 
 pub period-csd-spec : {M : Type 1} → statement M
 unfolding periodAt
 period-csd-spec = tie.close (tie.spec
-    (λ c. search needs)
-    (λ c. search needs)
     (λ c κs. search needs)
-    (λ c. c .byte-at .ensures))
+    (λ c κs. search needs)
+    (λ c. search byte-read))

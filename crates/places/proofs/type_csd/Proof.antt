@@ -1,12 +1,13 @@
 -- `places::type_csd` meets its contract. Assumes nothing.
 use borrow.Author.Needs.{needs}
 use Rattle.places.specs.Layout.{typeAt}
+use Rattle.places.proofs.Numbers.{byte-read}
 use Rattle.places.proofs.type_csd.Statement.{statement}
 use Rattle.places.proofs.type_csd.Tie as tie
 
 pub type-csd-spec : {M : Type 1} → statement M
 unfolding typeAt
 type-csd-spec = tie.close (tie.spec
-    (λ c. search needs)
     (λ c κs. search needs)
-    (λ c. c .byte-at .ensures))
+    (λ c κs. search needs)
+    (λ c. search byte-read))

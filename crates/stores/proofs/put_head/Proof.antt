@@ -22,4 +22,4 @@ put-head-spec =
     let s2 = s3 .before .before .before .before .before in
     let s1 = s2 .before .before .before .before .before in
     let s0 = s1 .before .before .before .before .before in
-    head-put _ _ _ _ _ _ _ _ _ _ _ _ _ _ (s3 .put-one4 .ensures) (s3 .before .wide4 .ensures) (s2 .put-one3 .ensures) (s2 .before .wide3 .ensures) (s1 .put-one2 .ensures) (s1 .before .wide2 .ensures) (s0 .put-one .ensures) (s0 .before .wide .ensures)))
+    head-put _ _ _ _ _ _ _ _ _ _ _ _ _ _ (s3 .put-one4 .ensures) (s3 .before .wide4 .ensures .0) (s2 .put-one3 .ensures) (s2 .before .wide3 .ensures .0) (s1 .put-one2 .ensures) (s1 .before .wide2 .ensures .0) (s0 .put-one .ensures) (s0 .before .wide .ensures .0)))

@@ -16,4 +16,4 @@ put-pair-spec =
     (λ c.
     let s1 = c .before .before in
     let s0 = s1 .before .before .before .before .before in
-    pair-put _ _ _ _ _ _ _ _ (s1 .put-one2 .ensures) (s1 .before .wide2 .ensures) (s0 .put-one .ensures) (s0 .before .wide .ensures)))
+    pair-put _ _ _ _ _ _ _ _ (s1 .put-one2 .ensures) (s1 .before .wide2 .ensures .0) (s0 .put-one .ensures) (s0 .before .wide .ensures .0)))

@@ -8,8 +8,7 @@ pub put-period-spec : {M : Type 1} → statement M
 put-period-spec =
     tie.close
     (tie.spec
-    (λ c. search needs)
-    (λ c. search needs)
+    (λ c κs. search needs)
     (λ c κs. search needs)
     (λ c κs. search needs)
     (λ c κs. search needs)
@@ -20,5 +19,5 @@ put-period-spec =
     let s2 = s3 .before .before .before .before in
     let s1 = s2 .before .before .before .before in
     let s0 = s1 .before .before .before .before in
-    let a = s0 .before .before .before .args in
-    period-put _ _ _ _ _ (a .i) (a .r) (s3 .put-days .ensures) (s2 .put-two .ensures) (s1 .put-three .ensures) (s0 .put-pair .ensures)))
+    let a = s0 .before .before in
+    period-put _ _ _ _ _ _ _ (a .before .before .args .r) (s3 .put-days .ensures) (s2 .put-two .ensures) (s1 .put-three .ensures) (s0 .put-pair .ensures) (a .address .ensures .0)))

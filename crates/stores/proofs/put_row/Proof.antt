@@ -8,11 +8,10 @@ pub put-row-spec : {M : Type 1} → statement M
 put-row-spec =
     tie.close
     (tie.spec
+    (λ c κs. search needs)
+    (λ c κs. search needs)
+    (λ c κs. search needs)
+    (λ c κs. search needs)
+    (λ c κs. search needs)
     (λ c. search needs)
-    (λ c. search needs)
-    (λ c κs. search needs)
-    (λ c κs. search needs)
-    (λ c κs. search needs)
-    (λ c κs. search needs)
-    (λ c. search needs)
-    (λ c. row-put _ _ _ _ _ _ _ (c .before .before .put-values-6 .ensures) (search needs) (c .before .before .before .before .before .before .before .before .before .before .put-values-0 .ensures) (c .before .before .before .before .before .before .before .before .before .before .before .before .before .before .put-head .ensures)))
+    (λ c. row-put _ _ _ _ _ _ _ _ (c .before .before .put-values-6 .ensures) (search needs) (c .before .before .before .before .before .before .before .before .before .before .put-values-0 .ensures) (c .before .before .before .before .before .before .before .before .before .before .before .before .before .before .put-head .ensures) (search needs)))

@@ -1,9 +1,9 @@
--- `owners::address` meets its contract. Assumes nothing.
+-- `places::address` meets its contract. Assumes nothing.
 use mathlib.Core.Path.{refl}
 use native.Mathlib.Omega.{arith}
-use Rattle.owners.proofs.Finding.{area}
-use Rattle.owners.proofs.address.Statement.{statement}
-use Rattle.owners.proofs.address.Tie as tie
+use Rattle.places.proofs.Numbers.{area}
+use Rattle.places.proofs.address.Statement.{statement}
+use Rattle.places.proofs.address.Tie as tie
 
 pub address-spec : {M : Type 1} → statement M
 address-spec =
