@@ -2,6 +2,7 @@ pub mod DeskExample
 pub mod Marked
 pub mod Edges
 pub mod Order
+pub mod Shapes
 pub mod Ranges
 pub mod First
 pub mod SameLists

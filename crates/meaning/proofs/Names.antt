@@ -1,22 +1,24 @@
 -- Which depository a line names, and that a line which is read names the depository of its csd field.
 use Prim.Native.Nat.{ℕ, _+_, _*_, _-_, _≤_}
-use mathlib.Core.Path.{_≡_, refl, sym, _∙_}
-use mathlib.Core.Bool.{true, _&&_, and-true, and-false, false≢true}
+use mathlib.Core.Path.{_≡_, refl, ap, sym, _∙_}
+use mathlib.Core.Bool.{Bool, true, false, _&&_, and-true, and-false, false≢true}
 use mathlib.Core.List.{List, [], _∷_, foldl}
 use mathlib.Core.Option.{some}
 use native.Mathlib.Omega.{arith}
 use lib.Dec.{eqb, leb, ltb}
 use lib.ListN.{getD}
 use borrow.Author.Tests.{eqb-true, eq-eqb, leb-true, le-leb, ltb-true}
-use Rattle.tables.proofs.Counts.{ands}
+use Rattle.tables.specs.Count.{every}
+use Rattle.tables.proofs.Counts.{both, ands}
 use Rattle.meaning.specs.Text.{same, decimal}
 use Rattle.meaning.specs.Fields.{within, fields}
-use Rattle.meaning.specs.Forms.{Form, holds, isNumber, read, formsOf, Letter, letterT, letterE, letterR, letterO, letterD, letterM, letterN, letterA, letterZ, letterQ, csdForm}
+use Rattle.meaning.specs.Forms.{Form, upTo, code, day, letters, oneOf, optional, holds, holdsAll, isNumber, read, Letter, Shape, shapes, csdForm}
 use Rattle.meaning.specs.Records.{_!_}
-use Rattle.meaning.specs.Reading.{asks, readAll, reading}
+use Rattle.meaning.specs.Reading.{asks, readAll, numbersRead, reading}
 use Rattle.meaning.specs.Lone.{names, depository}
 use Rattle.meaning.proofs.SameLists.{same-self, same-numbers}
-use Rattle.meaning.proofs.Ranges.{given-some, together-some, holds-at, reading-parts, reading-ranged}
+use Rattle.meaning.proofs.Ranges.{given-some, together-some, numbers-parts, numbers-ranged, reading-right}
+use Rattle.meaning.proofs.Shapes.{In, every-row}
 
 -- ---- a line names one depository at most
 
@@ -48,42 +50,65 @@ one-digit (c ∷ d ∷ cs) n e =
 
 -- ---- a line that is read
 
--- the csd is every letter's first field
-csd-first : {G : Type 0} (l : Letter) → ((φs : List Form) → formsOf l ≡ csdForm ∷ φs → G) → G
-unfolding formsOf
-csd-first letterT k = k _ refl
-csd-first letterE k = k _ refl
-csd-first letterR k = k _ refl
-csd-first letterO k = k _ refl
-csd-first letterD k = k _ refl
-csd-first letterM k = k _ refl
-csd-first letterN k = k _ refl
-csd-first letterA k = k _ refl
-csd-first letterZ k = k _ refl
-csd-first letterQ k = k _ refl
+-- whether a form is the csd's
+isCsd : Form → Bool
+isCsd (upTo n) = eqb n 8
+isCsd code = false
+isCsd day = false
+isCsd (letters n) = false
+isCsd (oneOf ws) = false
+isCsd (optional φ) = false
 
-first-read : (φs : List Form) (fs : List (List ℕ)) (v : List ℕ) → readAll (csdForm ∷ φs) fs ≡ some v → getD fs 0 [] ≡ (48 + v ! 0) ∷ []
-unfolding readAll
-first-read φs [] v e = absurd (let z : _≡_ {A = ℕ} 0 1 = cc in omega arith)
-first-read φs (f ∷ fs) v e =
-    together-some (read csdForm f) (readAll φs fs) v e (λ m ms a b z. rw z (one-digit f m a))
+csdFirst : List Form → Bool
+csdFirst [] = false
+csdFirst (φ ∷ φs) = isCsd φ
 
-csd-read : (l : Letter) (fs : List (List ℕ)) (v : List ℕ) → readAll (formsOf l) fs ≡ some v → getD fs 0 [] ≡ (48 + v ! 0) ∷ []
-csd-read l fs v e = csd-first l (λ φs z. first-read φs fs v (rw z at e))
+csd-form : (φ : Form) → isCsd φ ≡ true → φ ≡ csdForm
+unfolding isCsd
+csd-form (upTo n) e = ap upTo (eqb-true n 8 e)
+csd-form code e = absurd (false≢true e)
+csd-form day e = absurd (false≢true e)
+csd-form (letters n) e = absurd (false≢true e)
+csd-form (oneOf ws) e = absurd (false≢true e)
+csd-form (optional φ) e = absurd (false≢true e)
+
+-- the csd is the first field of every row of the table
+csd-first : (s : Shape) → In s shapes → csdFirst (s .forms) ≡ true
+unfolding shapes every csdFirst isCsd
+csd-first s i = every-row (λ s. csdFirst (s .forms)) shapes s refl i
+
+first-read : (φs : List Form) (fs : List (List ℕ)) (v : List ℕ) → csdFirst φs ≡ true → readAll φs fs ≡ some v → getD fs 0 [] ≡ (48 + v ! 0) ∷ []
+unfolding csdFirst readAll
+first-read [] fs v t e = absurd (false≢true t)
+first-read (φ ∷ φs) [] v t e = absurd (let z : _≡_ {A = ℕ} 0 1 = cc in omega arith)
+first-read (φ ∷ φs) (f ∷ fs) v t e =
+    together-some (read φ f) (readAll φs fs) v e (λ m ms a b z. rw z (one-digit f m (rw (csd-form φ t) at a)))
+
+first-held : (φs : List Form) (v : List ℕ) → csdFirst φs ≡ true → holdsAll φs v ≡ true → within 1 8 (v ! 0) ≡ true
+unfolding csdFirst holdsAll holds
+first-held [] v t e = absurd (false≢true t)
+first-held (φ ∷ φs) [] t e = absurd (false≢true e)
+first-held (φ ∷ φs) (n ∷ v) t e = rw (csd-form φ t) at (both (holds φ n) (holdsAll φs v) e .0)
 
 -- its csd is 1 to 8
-pub reading-csd : (line : List ℕ) (l : Letter) (v : List ℕ) → reading line ≡ asks l v → (1 ≤ v ! 0) × (v ! 0 ≤ 8)
-unfolding holds
-reading-csd line l v e =
-    let h : within 1 8 (v ! 0) ≡ true = csd-first l (λ φs z. holds-at (csdForm ∷ φs) v (rw z at (reading-ranged line l v e)) 0 (omega arith)) in
+pub numbers-csd : (line : List ℕ) (l : Letter) (v : List ℕ) → numbersRead line ≡ asks l v → (1 ≤ v ! 0) × (v ! 0 ≤ 8)
+numbers-csd line l v e =
+    let r = numbers-ranged line l v e in
+    let h = first-held (r .row .forms) v (csd-first (r .row) (r .listed)) (r .held) in
     (leb-true 1 (v ! 0) (search ands), leb-true (v ! 0) 8 (search ands))
 
--- A line that is read names the depository of its csd field.
-pub reading-names : (line : List ℕ) (l : Letter) (v : List ℕ) → reading line ≡ asks l v → names (v ! 0) line ≡ true
+-- A line whose numbers are read names the depository of its csd field.
+pub numbers-names : (line : List ℕ) (l : Letter) (v : List ℕ) → numbersRead line ≡ asks l v → names (v ! 0) line ≡ true
 unfolding names
-reading-names line l v e =
-    let p = reading-parts line l v e in
-    rw (p .cut, csd-read l (p .rest) v (p .numbers)) (same-self ((48 + v ! 0) ∷ []))
+numbers-names line l v e =
+    let p = numbers-parts line l v e in
+    rw (p .cut, first-read (p .row .forms) (p .rest) v (csd-first (p .row) (p .listed)) (p .numbers)) (same-self ((48 + v ! 0) ∷ []))
+
+pub reading-csd : (line : List ℕ) (l : Letter) (v : List ℕ) → reading line ≡ asks l v → (1 ≤ v ! 0) × (v ! 0 ≤ 8)
+reading-csd line l v e = numbers-csd line l v (reading-right line l v e .0)
+
+pub reading-names : (line : List ℕ) (l : Letter) (v : List ℕ) → reading line ≡ asks l v → names (v ! 0) line ≡ true
+reading-names line l v e = numbers-names line l v (reading-right line l v e .0)
 
 pub reading-depository : (line : List ℕ) (l : Letter) (v : List ℕ) → reading line ≡ asks l v → depository line ≡ v ! 0
 reading-depository line l v e =

@@ -8,14 +8,15 @@ use native.Mathlib.Omega.{arith}
 use lib.Dec.{eqb, leb, ltb}
 use lib.ListN.{length, getD}
 use borrow.Author.Tests.{eqb-true, eq-eqb, leb-true, le-leb, ltb-false}
-use Rattle.tables.specs.Count.{every}
+use Rattle.tables.specs.Count.{has, every}
 use Rattle.tables.proofs.Counts.{cases, both, neither, and-r}
 use Rattle.meaning.specs.Text.{same, wordPlace, word, decimal}
 use Rattle.meaning.specs.Fields.{within, isCapital, wellMade, fields}
-use Rattle.meaning.specs.Forms.{Form, upTo, code, day, letters, oneOf, optional, isNumber, isCode, isDay, isWord, given, read, holds, holdsAll, letterOf, formsOf, Letter, letterT, letterE, letterR, letterO, letterD, letterM, letterN, letterA, letterZ, letterQ}
-use Rattle.meaning.specs.Reading.{wrong, together, readAll, refused, asks, byNumbers, byLetter, byFields, reading}
+use Rattle.meaning.specs.Forms.{Form, upTo, code, day, letters, oneOf, optional, isNumber, isCode, isDay, isWord, given, read, holds, holdsAll, Letter, Shape, shapeT, shapeE, shapeR, shapeO, shapeM, shapeA, shapeZ, shapes, hasLetter, hasLength, firstShape}
+use Rattle.meaning.specs.Reading.{wrong, together, readAll, Reading, refused, asks, byNumbers, byShape, byFields, numbersRead, unlessWrong, reading}
 use Rattle.meaning.specs.Records.{_!_, commandOf}
 use Rattle.meaning.specs.Sound.{daysFit, keyFits, typeFits, ruleFits, rowFits, periodFits, fits}
+use Rattle.meaning.proofs.Shapes.{In, Ranged, by-rows, first-found}
 
 pub given-some : (t : Bool) (n m : ℕ) → given t n ≡ some m → (t ≡ true) × (n ≡ m)
 given-some true n m e = (refl, cc)
@@ -100,105 +101,148 @@ holds-at (φ ∷ φs) (n ∷ ns) e (suc i) l = holds-at φs ns (both (holds φ n
 not-after : (a b : ℕ) → ltb b a ≡ false → leb a b ≡ true
 not-after a b e = le-leb a b (ltb-false b a e)
 
--- The numbers of a letter's fields, each in its form's range, give a command that fits, unless refusal 5 says more.
-pub command-fits : (l : Letter) (v : List ℕ) → holdsAll (formsOf l) v ≡ true → wrong (commandOf l v) ≡ false → fits (commandOf l v) ≡ true
-unfolding formsOf commandOf wrong fits typeFits ruleFits rowFits periodFits keyFits daysFit holdsAll
-command-fits letterT v e w =
-    let h = holds-at (formsOf letterT) v e in
-    let n = neither (eqb (v ! 4) 3 && eqb (v ! 3) 2) (ltb (v ! 6) (v ! 5)) w in
-    rw (h 2 (omega arith), h 3 (omega arith), h 4 (omega arith), n .0, h 5 (omega arith), h 6 (omega arith))
-    (not-after (v ! 5) (v ! 6) (n .1))
-command-fits letterE v e w = holds-at (formsOf letterE) v e 4 (omega arith)
-command-fits letterR v e w =
-    let h = holds-at (formsOf letterR) v e in
-    rw (
-      h 2 (omega arith),
-      h 3 (omega arith),
-      h 4 (omega arith),
-      h 5 (omega arith),
-      h 6 (omega arith),
-      h 7 (omega arith),
-      h 8 (omega arith),
-    )
-    (not-after (v ! 7) (v ! 8) w)
-command-fits letterO v e w = holds-at (formsOf letterO) v e 5 (omega arith)
-command-fits letterD v e w = refl
-command-fits letterM v e w =
-    let h = holds-at (formsOf letterM) v e in
-    rw (
-      h 2 (omega arith),
-      h 3 (omega arith),
-      h 4 (omega arith),
-      h 5 (omega arith),
-      h 6 (omega arith),
-      h 7 (omega arith),
-      h 8 (omega arith),
-      h 9 (omega arith),
-      h 10 (omega arith),
-      h 11 (omega arith),
-      h 12 (omega arith),
-      h 13 (omega arith),
-      h 14 (omega arith),
-    )
-command-fits letterN v e w = refl
-command-fits letterA v e w =
-    let h = holds-at (formsOf letterA) v e in
-    rw (h 2 (omega arith), h 3 (omega arith), h 4 (omega arith), h 5 (omega arith), h 6 (omega arith))
-    (not-after (v ! 5) (v ! 6) w)
-command-fits letterZ v e w = holds-at (formsOf letterZ) v e 6 (omega arith)
-command-fits letterQ v e w = refl
+-- by a row's forms
+abbrev Fits : List ℕ → Shape → Type 0
+Fits v s = holdsAll (s .forms) v ≡ true → wrong (commandOf (s .letter) v) ≡ false → fits (commandOf (s .letter) v) ≡ true
+
+-- Numbers in their forms' ranges give a command that fits, unless refusal 5 says more.
+pub command-fits : (l : Letter) (v : List ℕ) → Ranged l v → wrong (commandOf l v) ≡ false → fits (commandOf l v) ≡ true
+unfolding shapes commandOf wrong fits typeFits ruleFits rowFits periodFits keyFits daysFit
+command-fits l v r =
+    by-rows (λ l v. wrong (commandOf l v) ≡ false → fits (commandOf l v) ≡ true)
+    (fits-T, (fits-E, (fits-R, (fits-O, ((λ e w. refl), (fits-M, ((λ e w. refl), (fits-A, (fits-Z, ((λ e w. refl), tt))))))))))
+    r
+  where
+    fits-T : Fits v shapeT
+    fits-T e w =
+        let h = holds-at (shapeT .forms) v e in
+        let n = neither (eqb (v ! 4) 3 && eqb (v ! 3) 2) (ltb (v ! 6) (v ! 5)) w in
+        rw (h 2 (omega arith), h 3 (omega arith), h 4 (omega arith), n .0, h 5 (omega arith), h 6 (omega arith))
+        (not-after (v ! 5) (v ! 6) (n .1))
+
+    fits-E : Fits v shapeE
+    fits-E e w = holds-at (shapeE .forms) v e 4 (omega arith)
+
+    fits-R : Fits v shapeR
+    fits-R e w =
+        let h = holds-at (shapeR .forms) v e in
+        rw (
+          h 2 (omega arith),
+          h 3 (omega arith),
+          h 4 (omega arith),
+          h 5 (omega arith),
+          h 6 (omega arith),
+          h 7 (omega arith),
+          h 8 (omega arith),
+        )
+        (not-after (v ! 7) (v ! 8) w)
+
+    fits-O : Fits v shapeO
+    fits-O e w = holds-at (shapeO .forms) v e 5 (omega arith)
+
+    fits-M : Fits v shapeM
+    fits-M e w =
+        let h = holds-at (shapeM .forms) v e in
+        rw (
+          h 2 (omega arith),
+          h 3 (omega arith),
+          h 4 (omega arith),
+          h 5 (omega arith),
+          h 6 (omega arith),
+          h 7 (omega arith),
+          h 8 (omega arith),
+          h 9 (omega arith),
+          h 10 (omega arith),
+          h 11 (omega arith),
+          h 12 (omega arith),
+          h 13 (omega arith),
+          h 14 (omega arith),
+        )
+
+    fits-A : Fits v shapeA
+    fits-A e w =
+        let h = holds-at (shapeA .forms) v e in
+        rw (h 2 (omega arith), h 3 (omega arith), h 4 (omega arith), h 5 (omega arith), h 6 (omega arith))
+        (not-after (v ! 5) (v ! 6) w)
+
+    fits-Z : Fits v shapeZ
+    fits-Z e w = holds-at (shapeZ .forms) v e 6 (omega arith)
 
 -- ---- lines
 
 no-reading : {G : Type 0} (n : ℕ) (l : Letter) (v : List ℕ) → refused n ≡ asks l v → G
 no-reading n l v e = absurd (let z : _≡_ {A = ℕ} 0 1 = cc in omega arith)
 
--- What a line that is read has: a first field, which is its letter, and fields after it that give its numbers.
+-- What a line that is read has: a first field, which is the letter of a row of the table, and fields after it that give its numbers by the row's forms.
 pub record Parts (line : List ℕ) (l : Letter) (v : List ℕ) : Type 0 where
   pub head : List ℕ
   pub rest : List (List ℕ)
   pub cut : fields line ≡ head ∷ rest
-  pub letter : letterOf head ≡ some l
-  pub numbers : readAll (formsOf l) rest ≡ some v
-  pub right : wrong (commandOf l v) ≡ false
+  pub row : Shape
+  pub listed : In row shapes
+  pub letter : row .letter ≡ l
+  pub first : hasLetter head row ≡ true
+  pub count : hasLength (length rest) row ≡ true
+  pub numbers : readAll (row .forms) rest ≡ some v
 
-numbers-parts : (l′ l : Letter) (o : Option (List ℕ)) (v : List ℕ) → byNumbers l′ o ≡ asks l v → (l′ ≡ l) × (o ≡ some v) × (wrong (commandOf l v) ≡ false)
+by-numbers : (l′ l : Letter) (o : Option (List ℕ)) (v : List ℕ) → byNumbers l′ o ≡ asks l v → (l′ ≡ l) × (o ≡ some v)
 unfolding byNumbers
-numbers-parts l′ l none v e = no-reading 5 l v e
-numbers-parts l′ l (some v′) v e =
+by-numbers l′ l none v e = no-reading 5 l v e
+by-numbers l′ l (some v′) v e = let x : l′ ≡ l = cc in let y : v′ ≡ v = cc in (x, ap some y)
+
+by-shape : {G : Type 0} (o : Option Shape) (l : Letter) (fs : List (List ℕ)) (v : List ℕ) → byShape o fs ≡ asks l v
+    → ((s : Shape) → o ≡ some s → s .letter ≡ l → readAll (s .forms) fs ≡ some v → G) → G
+unfolding byShape
+by-shape none l fs v e k = no-reading 4 l v e
+by-shape (some s) l fs v e k = let p = by-numbers (s .letter) l (readAll (s .forms) fs) v e in k s refl (p .0) (p .1)
+
+by-fields : (line : List ℕ) (fs : List (List ℕ)) (l : Letter) (v : List ℕ) → fields line ≡ fs → byFields fs ≡ asks l v → Parts line l v
+unfolding byFields
+by-fields line [] l v c e = no-reading 3 l v e
+by-fields line (f ∷ fs) l v c e =
+    cases (has (hasLetter f) shapes)
+    (λ t.
+    by-shape (firstShape (λ s. hasLetter f s && hasLength (length fs) s) shapes) l fs v (rw t at e)
+    (λ s o a b.
+    let p = first-found (λ s. hasLetter f s && hasLength (length fs) s) shapes s o in
+    let d = both (hasLetter f s) (hasLength (length fs) s) (p .0) in
+    record { head = f; rest = fs; cut = c; row = s; listed = p .1; letter = a; first = d .0; count = d .1; numbers = b }))
+    (λ t. no-reading 3 l v (rw t at e))
+
+pub numbers-parts : (line : List ℕ) (l : Letter) (v : List ℕ) → numbersRead line ≡ asks l v → Parts line l v
+unfolding numbersRead
+numbers-parts line l v e =
+    cases (wellMade line) (λ t. by-fields line (fields line) l v refl (rw t at e)) (λ t. no-reading 2 l v (rw t at e))
+
+-- Its numbers are in their forms' ranges.
+pub numbers-ranged : (line : List ℕ) (l : Letter) (v : List ℕ) → numbersRead line ≡ asks l v → Ranged l v
+numbers-ranged line l v e =
+    let p = numbers-parts line l v e in
+    record { row = p .row; listed = p .listed; letter = p .letter; held = read-all-holds (p .row .forms) (p .rest) v (p .numbers) }
+
+right-numbers : (y : Reading) (l : Letter) (v : List ℕ) → unlessWrong y ≡ asks l v → (y ≡ asks l v) × (wrong (commandOf l v) ≡ false)
+unfolding unlessWrong
+right-numbers (refused n) l v e = no-reading n l v e
+right-numbers (asks l′ v′) l v e =
     cases (wrong (commandOf l′ v′))
     (λ w. no-reading 5 l v (rw w at e))
     (λ w.
     let f = rw w at e in
     let x : l′ ≡ l = cc in
     let y : v′ ≡ v = cc in
-    (x, ap some y, rw (← x, ← y) w))
+    (f, rw (← x, ← y) w))
 
-letter-parts : (o : Option Letter) (l : Letter) (fs : List (List ℕ)) (v : List ℕ) → byLetter o fs ≡ asks l v → (o ≡ some l) × (readAll (formsOf l) fs ≡ some v) × (wrong (commandOf l v) ≡ false)
-unfolding byLetter
-letter-parts none l fs v e = no-reading 3 l v e
-letter-parts (some l′) l fs v e =
-    cases (eqb (length fs) (length (formsOf l′)))
-    (λ t.
-    let p = numbers-parts l′ l (readAll (formsOf l′) fs) v (rw t at e) in
-    (ap some (p .0), rw (← (p .0)) (p .1), p .2))
-    (λ t. no-reading 4 l v (rw t at e))
-
-fields-parts : (line : List ℕ) (fs : List (List ℕ)) (l : Letter) (v : List ℕ) → fields line ≡ fs → byFields fs ≡ asks l v → Parts line l v
-unfolding byFields
-fields-parts line [] l v c e = no-reading 3 l v e
-fields-parts line (f ∷ fs) l v c e =
-    let p = letter-parts (letterOf f) l fs v e in
-    record { head = f; rest = fs; cut = c; letter = p .0; numbers = p .1; right = p .2 }
+-- A line that is read has its numbers read, and they are not wrong.
+pub reading-right : (line : List ℕ) (l : Letter) (v : List ℕ) → reading line ≡ asks l v → (numbersRead line ≡ asks l v) × (wrong (commandOf l v) ≡ false)
+unfolding reading
+reading-right line l v e = right-numbers (numbersRead line) l v e
 
 pub reading-parts : (line : List ℕ) (l : Letter) (v : List ℕ) → reading line ≡ asks l v → Parts line l v
-unfolding reading
-reading-parts line l v e =
-    cases (wellMade line) (λ t. fields-parts line (fields line) l v refl (rw t at e)) (λ t. no-reading 2 l v (rw t at e))
+reading-parts line l v e = numbers-parts line l v (reading-right line l v e .0)
 
--- Its numbers are in their forms' ranges, and what it would put into a book fits.
-pub reading-ranged : (line : List ℕ) (l : Letter) (v : List ℕ) → reading line ≡ asks l v → holdsAll (formsOf l) v ≡ true
-reading-ranged line l v e = let p = reading-parts line l v e in read-all-holds (formsOf l) (p .rest) v (p .numbers)
+pub reading-ranged : (line : List ℕ) (l : Letter) (v : List ℕ) → reading line ≡ asks l v → Ranged l v
+reading-ranged line l v e = numbers-ranged line l v (reading-right line l v e .0)
 
+-- What it would put into a book fits.
 pub reading-fits : (line : List ℕ) (l : Letter) (v : List ℕ) → reading line ≡ asks l v → fits (commandOf l v) ≡ true
-reading-fits line l v e = command-fits l v (reading-ranged line l v e) (reading-parts line l v e .right)
+reading-fits line l v e = command-fits l v (reading-ranged line l v e) (reading-right line l v e .1)

@@ -6,7 +6,7 @@ use mathlib.Core.Option.{Option, some, none}
 use lib.Dec.{leb, ltb, eqb}
 use lib.ListN.{length, getD}
 use Rattle.tables.specs.Count.{every}
-use Rattle.meaning.specs.Text.{bytes, word, decimal, wordPlace, place}
+use Rattle.meaning.specs.Text.{bytes, same, word, decimal, wordPlace}
 use Rattle.meaning.specs.Fields.{within, isDigit, isCapital}
 
 -- ---- the forms of a field
@@ -173,45 +173,80 @@ letterText letterA = bytes "A"
 letterText letterZ = bytes "Z"
 letterText letterQ = bytes "Q"
 
--- the letters in the table's order
-abbrev pub letterAt : ℕ → Option Letter
-letterAt n =
-    getD
-    (some letterT ∷ some letterE ∷ some letterR ∷ some letterO ∷ some letterD ∷ some letterM ∷ some letterN ∷ some letterA
-    ∷ some letterZ ∷ some letterQ ∷ [])
-    n none
+-- a letter and the forms of the fields after it
+pub record Shape : Type 0 where
+  pub letter : Letter
+  pub forms : List Form
 
-abbrev pub lettersText : List ℕ
-lettersText = bytes "TERODMNAZQ"
+unfoldable pub shapeT : Shape
+shapeT = record {
+  letter = letterT;
+  forms = csdForm ∷ day ∷ typeForm ∷ objectForm ∷ processingForm ∷ day ∷ day ∷ [];
+}
 
--- the place in the table of a field that is one of its letters; 10 for any other
-abbrev pub letterPlace : List ℕ → ℕ
-letterPlace f = cond (eqb (length f) 1) (place (getD f 0 0) lettersText) 10
+unfoldable pub shapeE : Shape
+shapeE = record { letter = letterE; forms = csdForm ∷ day ∷ typeForm ∷ objectForm ∷ day ∷ [] }
 
-abbrev pub letterOf : List ℕ → Option Letter
-letterOf f = letterAt (letterPlace f)
+unfoldable pub shapeR : Shape
+shapeR = record {
+  letter = letterR;
+  forms = csdForm ∷ day ∷ typeForm ∷ objectForm ∷ sequenceForm ∷ signForm ∷ criteriaForm ∷ day ∷ day ∷ [];
+}
 
--- the fields after the letter
-unfoldable pub formsOf : Letter → List Form
-formsOf letterT = csdForm ∷ day ∷ typeForm ∷ objectForm ∷ processingForm ∷ day ∷ day ∷ []
-formsOf letterE = csdForm ∷ day ∷ typeForm ∷ objectForm ∷ day ∷ []
-formsOf letterR = csdForm ∷ day ∷ typeForm ∷ objectForm ∷ sequenceForm ∷ signForm ∷ criteriaForm ∷ day ∷ day ∷ []
-formsOf letterO = csdForm ∷ day ∷ typeForm ∷ objectForm ∷ sequenceForm ∷ sequenceForm ∷ []
-formsOf letterD = csdForm ∷ day ∷ typeForm ∷ objectForm ∷ sequenceForm ∷ []
-formsOf letterM = csdForm ∷ day ∷ typeForm ∷ objectForm ∷ sequenceForm ∷ tenValues
-formsOf letterN = csdForm ∷ day ∷ typeForm ∷ objectForm ∷ sequenceForm ∷ tenValues
-formsOf letterA = csdForm ∷ day ∷ kindForm ∷ numberForm ∷ code ∷ day ∷ day ∷ []
-formsOf letterZ = csdForm ∷ day ∷ kindForm ∷ numberForm ∷ code ∷ day ∷ day ∷ []
-formsOf letterQ =
-    csdForm
-    ∷ day
-    ∷ objectForm
-    ∷ partyTypeForm
-    ∷ optional movementForm
-    ∷ optional paymentForm
-    ∷ optional transactionForm
-    ∷ optional currencyForm
-    ∷ numberForm
-    ∷ numberForm
-    ∷ numberForm
-    ∷ []
+unfoldable pub shapeO : Shape
+shapeO = record {
+  letter = letterO;
+  forms = csdForm ∷ day ∷ typeForm ∷ objectForm ∷ sequenceForm ∷ sequenceForm ∷ [];
+}
+
+unfoldable pub shapeD : Shape
+shapeD = record { letter = letterD; forms = csdForm ∷ day ∷ typeForm ∷ objectForm ∷ sequenceForm ∷ [] }
+
+unfoldable pub shapeM : Shape
+shapeM = record { letter = letterM; forms = csdForm ∷ day ∷ typeForm ∷ objectForm ∷ sequenceForm ∷ tenValues }
+
+unfoldable pub shapeN : Shape
+shapeN = record { letter = letterN; forms = csdForm ∷ day ∷ typeForm ∷ objectForm ∷ sequenceForm ∷ tenValues }
+
+unfoldable pub shapeA : Shape
+shapeA = record { letter = letterA; forms = csdForm ∷ day ∷ kindForm ∷ numberForm ∷ code ∷ day ∷ day ∷ [] }
+
+unfoldable pub shapeZ : Shape
+shapeZ = record { letter = letterZ; forms = csdForm ∷ day ∷ kindForm ∷ numberForm ∷ code ∷ day ∷ day ∷ [] }
+
+unfoldable pub shapeQ : Shape
+shapeQ = record {
+  letter = letterQ;
+  forms =
+      csdForm
+      ∷ day
+      ∷ objectForm
+      ∷ partyTypeForm
+      ∷ optional movementForm
+      ∷ optional paymentForm
+      ∷ optional transactionForm
+      ∷ optional currencyForm
+      ∷ numberForm
+      ∷ numberForm
+      ∷ numberForm
+      ∷ [];
+}
+
+-- the table's rows, in its order; a letter may have several rows, of different lengths
+unfoldable pub shapes : List Shape
+unfolding shapeT shapeE shapeR shapeO shapeD shapeM shapeN shapeA shapeZ shapeQ
+shapes =
+    shapeT ∷ shapeE ∷ shapeR ∷ shapeO ∷ shapeD ∷ shapeM ∷ shapeN ∷ shapeA ∷ shapeZ ∷ shapeQ ∷ []
+
+-- whether a field is the row's letter
+abbrev pub hasLetter : List ℕ → Shape → Bool
+hasLetter f s = same f (letterText (s .letter))
+
+-- whether n fields stand after the row's letter
+abbrev pub hasLength : ℕ → Shape → Bool
+hasLength n s = eqb n (length (s .forms))
+
+-- the first row that passes a test
+unfoldable pub firstShape : (Shape → Bool) → List Shape → Option Shape
+firstShape p [] = none
+firstShape p (s ∷ ss) = cond (p s) (some s) (firstShape p ss)

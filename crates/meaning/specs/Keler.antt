@@ -6,7 +6,7 @@ use lib.Dec.{leb}
 use lib.ListN.{getD}
 use Rattle.meaning.specs.Text.{bytes, word}
 use Rattle.meaning.specs.Fields.{within}
-use Rattle.meaning.specs.Forms.{isDay, letterT, letterR, letterM}
+use Rattle.meaning.specs.Forms.{isDay, shapeT, shapeR, shapeM}
 use Rattle.meaning.specs.Records.{positive, negative}
 use Rattle.meaning.specs.Refusals.{firstOf}
 use Rattle.meaning.specs.Writing.{written}
@@ -94,11 +94,11 @@ kelerRows =
 
 -- the set for a csd, a day, a first and a last day: 10 T lines, 13 R lines, 32 M lines
 unfoldable pub kelerLines : ℕ → ℕ → ℕ → ℕ → List (List ℕ)
-unfolding kelerTypes kelerRules kelerRows written
+unfolding kelerTypes kelerRules kelerRows written shapeT shapeR shapeM
 kelerLines csd day first last =
-    map (λ e. written letterT (csd ∷ day ∷ (e ++ (first ∷ last ∷ [])))) kelerTypes
-    ++ (map (λ e. written letterR (csd ∷ day ∷ (e ++ (first ∷ last ∷ [])))) kelerRules
-    ++ map (λ e. written letterM (csd ∷ day ∷ e)) kelerRows)
+    map (λ e. written shapeT (csd ∷ day ∷ (e ++ (first ∷ last ∷ [])))) kelerTypes
+    ++ (map (λ e. written shapeR (csd ∷ day ∷ (e ++ (first ∷ last ∷ [])))) kelerRules
+    ++ map (λ e. written shapeM (csd ∷ day ∷ e)) kelerRows)
 
 -- line 1 to 55 of the set
 unfoldable pub kelerLine : ℕ → ℕ → ℕ → ℕ → ℕ → List ℕ

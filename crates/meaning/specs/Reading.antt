@@ -5,8 +5,9 @@ use mathlib.Core.List.{List, [], _∷_}
 use mathlib.Core.Option.{Option, some, none}
 use lib.Dec.{ltb, eqb}
 use lib.ListN.{length}
+use Rattle.tables.specs.Count.{has}
 use Rattle.meaning.specs.Fields.{wellMade, fields}
-use Rattle.meaning.specs.Forms.{Form, read, Letter, letterOf, formsOf}
+use Rattle.meaning.specs.Forms.{Form, read, Letter, Shape, shapes, hasLetter, hasLength, firstShape}
 use Rattle.meaning.specs.Records.{
   Command,
   commandOf,
@@ -55,25 +56,35 @@ readAll [] fs = some []
 readAll (φ ∷ φs) [] = none
 readAll (φ ∷ φs) (f ∷ fs) = together (read φ f) (readAll φs fs)
 
--- 5: a field is outside its form or range, wrongly empty or wrongly filled, or what `wrong` says
+-- 5: a field is outside its form or range, wrongly empty or wrongly filled
 unfoldable pub byNumbers : Letter → Option (List ℕ) → Reading
-unfolding wrong commandOf
 byNumbers l none = refused 5
-byNumbers l (some v) = cond (wrong (commandOf l v)) (refused 5) (asks l v)
+byNumbers l (some v) = asks l v
 
--- 4: the number of fields differs from the letter's
-unfoldable pub byLetter : Option Letter → List (List ℕ) → Reading
-unfolding byNumbers readAll formsOf
-byLetter none fs = refused 3
-byLetter (some l) fs = cond (eqb (length fs) (length (formsOf l))) (byNumbers l (readAll (formsOf l) fs)) (refused 4)
+-- 4: the number of fields is of none of the letter's rows
+unfoldable pub byShape : Option Shape → List (List ℕ) → Reading
+unfolding byNumbers readAll
+byShape none fs = refused 4
+byShape (some s) fs = byNumbers (s .letter) (readAll (s .forms) fs)
 
 -- 3: the first field isn't a letter of the table
 unfoldable pub byFields : List (List ℕ) → Reading
-unfolding byLetter
+unfolding has byShape firstShape shapes
 byFields [] = refused 3
-byFields (f ∷ fs) = byLetter (letterOf f) fs
+byFields (f ∷ fs) =
+    cond (has (hasLetter f) shapes) (byShape (firstShape (λ s. hasLetter f s && hasLength (length fs) s) shapes) fs) (refused 3)
 
 -- 2: the line has 0 bytes or over 80, or a byte not allowed
-unfoldable pub reading : List ℕ → Reading
+unfoldable pub numbersRead : List ℕ → Reading
 unfolding wellMade byFields fields
-reading line = cond (wellMade line) (byFields (fields line)) (refused 2)
+numbersRead line = cond (wellMade line) (byFields (fields line)) (refused 2)
+
+-- 5 too: what `wrong` says of all the numbers
+unfoldable pub unlessWrong : Reading → Reading
+unfolding wrong commandOf
+unlessWrong (refused n) = refused n
+unlessWrong (asks l v) = cond (wrong (commandOf l v)) (refused 5) (asks l v)
+
+unfoldable pub reading : List ℕ → Reading
+unfolding unlessWrong numbersRead
+reading line = unlessWrong (numbersRead line)

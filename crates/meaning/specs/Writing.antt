@@ -1,4 +1,4 @@
--- A line written from its letter and its numbers, by the same table of forms that reads it. Assumes nothing.
+-- A line written from a row of the table and its numbers, by the same forms that read it. Assumes nothing.
 use Prim.Native.Nat.{ℕ, zero, suc, _-_}
 use mathlib.Core.List.{List, [], _∷_, _++_}
 use lib.ListN.{getD}
@@ -11,9 +11,8 @@ use Rattle.meaning.specs.Forms.{
   letters,
   oneOf,
   optional,
-  formsOf,
   letterText,
-  Letter,
+  Shape,
 }
 
 -- the field of that form that gives the number
@@ -34,6 +33,6 @@ writeAll [] ns = []
 writeAll (φ ∷ φs) [] = []
 writeAll (φ ∷ φs) (n ∷ ns) = 44 ∷ (write φ n ++ writeAll φs ns)
 
-unfoldable pub written : Letter → List ℕ → List ℕ
-unfolding writeAll formsOf
-written l v = letterText l ++ writeAll (formsOf l) v
+unfoldable pub written : Shape → List ℕ → List ℕ
+unfolding writeAll
+written s v = letterText (s .letter) ++ writeAll (s .forms) v
