@@ -7,4 +7,3 @@ pub mod Rows
 pub mod FieldNumbers
 pub mod Readings
 pub mod LineCallers
-pub mod Walk

@@ -5,22 +5,22 @@ use mathlib.Core.Bool.{Bool, true, false, cond, _&&_}
 use mathlib.Core.List.{List, [], _∷_}
 use mathlib.Core.Option.{Option, some, none}
 use native.Mathlib.Omega.{arith}
-use lib.Dec.{leb}
 use lib.ListN.{length, getD}
-use borrow.Author.Tests.{leb-true}
-use Rattle.tables.specs.Count.{has, every}
+use Rattle.tables.specs.Count.{has}
+use Rattle.tables.specs.Padded.{padded}
 use Rattle.tables.proofs.Counts.{cases-eq}
+use Rattle.tables.proofs.Padding.{padded-at}
 use Rattle.meaning.specs.Fields.{wellMade, fields}
 use Rattle.meaning.specs.Forms.{Letter, Shape, shapes, hasLetter, hasLength, firstShape}
 use Rattle.meaning.specs.Records.{commandOf}
 use Rattle.meaning.specs.Reading.{Reading, refused, asks, readAll, byNumbers, byShape, byFields, numbersRead}
-use Rattle.meaning.proofs.Shapes.{In, every-row, Ranged}
+use Rattle.meaning.proofs.Shapes.{Ranged}
 use Rattle.meaning.proofs.Ranges.{numbers-ranged}
 use Rattle.meaning.proofs.Names.{numbers-csd}
 use Rattle.line.specs.Table.{letterByte}
-use Rattle.line.specs.Line.{padded, lineOf}
+use Rattle.line.specs.Line.{lineOf}
 use Rattle.line.specs.declared.reading.Line.{Line}
-use Rattle.line.proofs.Padding.{padded-at, command-padded}
+use Rattle.line.proofs.Padding.{command-padded}
 
 -- ---- refusals
 
@@ -56,11 +56,6 @@ known line =
     known-cond (wellMade line) (byFields (fields line)) (refused 2) (known-fields (fields line)) (omega arith, omega arith)
 
 -- ---- a line that is read
-
--- no row has more than fifteen fields
-few-fields : (s : Shape) → In s shapes → length (s .forms) ≤ 15
-unfolding shapes every
-few-fields s i = leb-true (length (s .forms)) 15 (every-row (λ s. leb (length (s .forms)) 15) shapes s refl i)
 
 -- The letter and the numbers that the meaning reads, in the ranges of a row of the table; the sixteen values are the numbers, and ask what they ask.
 pub record Asked (line : List ℕ) (r : Line) : Type 0 where

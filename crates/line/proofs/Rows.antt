@@ -13,19 +13,13 @@ use borrow.Author.Tests.{eqb-true, eq-eqb, ne-eqb}
 use Rattle.tables.specs.Count.{has, every}
 use Rattle.tables.proofs.Counts.{cases, both}
 use Rattle.tables.proofs.Lists.{has-cons}
+use Rattle.tables.proofs.Entries.{map-entry, every-entry}
 use Rattle.meaning.specs.Text.{same}
 use Rattle.meaning.specs.Forms.{letterText, Shape, shapeQ, shapes, hasLetter, hasLength, firstShape}
 use Rattle.line.specs.Table.{rows, shapeAt, atRow, formsAt, letterByte, asShape, firstRow, Counted}
 use Rattle.line.proofs.Loops.{same-length}
-use Rattle.line.proofs.TableRule.{entry}
 
 -- ---- a letter is one byte
-
-every-at : {A : Type 0} (p : A → Bool) (l : List A) (n : ℕ) (d : A) → every p l ≡ true → n < length l → p (getD l n d) ≡ true
-unfolding every
-every-at p [] n d e h = absurd (omega arith)
-every-at p (x ∷ l) zero d e h = both (p x) (every p l) e .0
-every-at p (x ∷ l) (suc n) d e h = every-at p l n d (both (p x) (every p l) e .1) (omega arith)
 
 abbrev oneByte : Shape → Bool
 oneByte s = eqb (length (letterText (s .letter))) 1
@@ -37,7 +31,7 @@ one-byte c (x ∷ y ∷ f) h = absurd (omega arith)
 
 row-letter : (c n : ℕ) → n < rows → hasLetter (c ∷ []) (shapeAt n) ≡ eqb c (letterByte (shapeAt n .letter))
 unfolding shapes every
-row-letter c n h = one-byte c (letterText (shapeAt n .letter)) (eqb-true _ 1 (every-at oneByte shapes n shapeQ refl h))
+row-letter c n h = one-byte c (letterText (shapeAt n .letter)) (eqb-true _ 1 (every-entry oneByte shapes n shapeQ refl h))
 
 none-long : (f : List ℕ) (l : List Shape) → every oneByte l ≡ true → (length f ≡ 1 → ⊥) → has (hasLetter f) l ≡ false
 unfolding every has
@@ -130,7 +124,7 @@ letter-none c {n} r h =
 
 pub row-some : (n : ℕ) → n < rows → atRow n ≡ some (shapeAt n)
 unfolding shapes
-row-some n h = entry some shapes n shapeQ none h
+row-some n h = map-entry some shapes n shapeQ none h
 
 pub row-none : (n : ℕ) → rows ≤ n → atRow n ≡ none
 unfolding shapes

@@ -8,6 +8,7 @@ use lib.Dec.{ltb, lit≤}
 use borrow.Author.Tests.{ltb-true}
 use Rattle.tables.specs.Count.{every}
 use Rattle.tables.proofs.Counts.{both}
+use Rattle.tables.proofs.Entries.{map-entry}
 use lib.Seq.{getD-take}
 use lib.ListN.{length, getD, take, replicate, List·getD-eq-default, List·getD-map}
 use Rattle.meaning.specs.Text.{bytes}
@@ -23,12 +24,6 @@ pub past : (m k n : ℕ) → m ≤ n → NoneFrom m k n → m + k ≤ n
 past m zero n h r = omega arith
 past m (suc k) n h r = omega (arith, past m k n h (r .0), r .1)
 
--- a function at each entry of a table
-pub entry : {A B : Type 0} (f : A → B) (l : List A) (n : ℕ) (d : A) (e : B) → n < length l → getD (map f l) n e ≡ f (getD l n d)
-entry f [] n d e h = absurd (omega arith)
-entry f (x ∷ xs) zero d e h = refl
-entry f (x ∷ xs) (suc n) d e h = entry f xs n d e (omega arith)
-
 -- ---- the forms of numbers
 
 abbrev mosts : List ℕ
@@ -43,7 +38,7 @@ small-each (x ∷ l) m (suc n) h e = small-each l m n h (both (ltb x m) (every (
 pub most-form : (n : ℕ) → n < 8 → Most n (getD mosts n 0)
 unfolding every
 most-form n h = record {
-  whole = sym (entry upTo mosts n 0 currencyForm h) ∙ getD-take 8 plainForms n currencyForm h;
+  whole = sym (map-entry upTo mosts n 0 currencyForm h) ∙ getD-take 8 plainForms n currencyForm h;
   small = small-each mosts 100000000 n (lit≤ tt) refl;
 }
 
@@ -54,7 +49,7 @@ last-form n h = List·getD-eq-default plainForms currencyForm h
 
 pub lettered : (n : ℕ) → n < rows → getD (bytes "TERODMNAZQ") n 0 ≡ letterByte (shapeAt n .letter)
 unfolding shapes
-lettered n h = entry (λ s. letterByte (s .letter)) shapes n shapeQ 0 h
+lettered n h = map-entry (λ s. letterByte (s .letter)) shapes n shapeQ 0 h
 
 abbrev numbers : List (List ℕ)
 numbers =
@@ -86,7 +81,7 @@ pub numbered-form : (n k : ℕ) → n < rows → k < 15 → formAt (getD (getD n
 unfolding formsAt shapes
 numbered-form n k h j =
     sym (List·getD-map formAt (getD numbers n []) k 0)
-    ∙ ap (λ fs. getD fs k csdForm) (sym (entry (map formAt) numbers n [] [] h) ∙ entry (λ s. fifteen (s .forms)) shapes n shapeQ [] h)
+    ∙ ap (λ fs. getD fs k csdForm) (sym (map-entry (map formAt) numbers n [] [] h) ∙ map-entry (λ s. fifteen (s .forms)) shapes n shapeQ [] h)
     ∙ getD-take 15 (formsAt n ++ replicate 15 csdForm) k csdForm j
     ∙ behind (formsAt n) 15 k
 
@@ -96,6 +91,6 @@ counts = 7 ∷ 5 ∷ 9 ∷ 6 ∷ 5 ∷ 15 ∷ 15 ∷ 7 ∷ 7 ∷ 11 ∷ []
 pub counted : (n : ℕ) → n < rows → Counted n (getD counts n 0)
 unfolding formsAt shapes every
 counted n h = record {
-  count = entry (λ s. length (s .forms)) shapes n shapeQ 0 h;
+  count = map-entry (λ s. length (s .forms)) shapes n shapeQ 0 h;
   few = omega (arith, small-each counts 16 n (lit≤ tt) refl);
 }

@@ -4,17 +4,12 @@ use mathlib.Core.Bool.{cond}
 use mathlib.Core.List.{List, [], _∷_}
 use mathlib.Core.Option.{Option, some, none}
 use lib.ListN.{set}
+use Rattle.tables.specs.Padded.{padded}
 use Rattle.meaning.specs.Forms.{Form, Letter, read}
 use Rattle.meaning.specs.Reading.{Reading, refused, asks}
 use Rattle.line.specs.Table.{letterByte}
 use Rattle.line.specs.declared.reading.Values.{Values}
 use Rattle.line.specs.declared.reading.Line.{Line}
-
--- n numbers: the list's, and zeros after them
-unfoldable pub padded : ℕ → List ℕ → List ℕ
-padded zero ns = []
-padded (suc n) [] = 0 ∷ padded n []
-padded (suc n) (x ∷ ns) = x ∷ padded n ns
 
 -- the numbers of a line's fields in a row of sixteen
 unfoldable pub inRow : Option (List ℕ) → Option (List ℕ)
