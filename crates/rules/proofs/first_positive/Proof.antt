@@ -51,7 +51,7 @@ use Rattle.rules.specs.Search.{noRule, mayDecide, firstPositive}
 use Rattle.rules.specs.declared.ListedRule.{ListedRule}
 use Rattle.rules.specs.declared.First.{First}
 use Rattle.rules.specs.declared.First.the-variants.{At, Nothing}
-use Rattle.rules.proofs.Walk.{whiles, ifs}
+use Rattle.tables.proofs.Walk.{whiles, ifs}
 use Rattle.rules.proofs.Turns.{hits, misses, ended, is-true, is-false}
 use Rattle.rules.proofs.ListedRule as T
 use Rattle.rules.proofs.ListedRule.Laws as T′

@@ -1,10 +1,10 @@
--- `line::belongs` meets its contract.
+-- `line::of_class` meets its contract.
 use borrow.Author.Needs.{needs}
-use Rattle.line.proofs.belongs.Statement.{statement}
-use Rattle.line.proofs.belongs.Tie as tie
+use Rattle.line.proofs.of_class.Statement.{statement}
+use Rattle.line.proofs.of_class.Tie as tie
 
-pub belongs-spec : {M : Type 1} → statement M
-belongs-spec =
+pub of-class-spec : {M : Type 1} → statement M
+of-class-spec =
     tie.close
     (tie.spec
     (λ c κs. search needs)
