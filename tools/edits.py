@@ -3,6 +3,8 @@
 Usage: edits.py (in the repository's root), then rt fmt."""
 # table, struct, the meaning's record, how many numbers a place holds
 T = [("type", "RestrictionType", "TypeRecord", 6), ("rule", "Rule", "Rule", 8), ("row", "Row", "Row", 14), ("period", "Period", "Period", 6)]
+# the tables whose records a command deletes, and those whose records it changes
+FEWER, CHANGED = ("rule", "row"), ("type", "rule", "period")
 out = """-- What a store at one place leaves of the lone lists. Written by tools/edits.py.
 use Prim.Native.Nat.{ℕ, _≤_, _<_}
 use mathlib.Core.Path.{_≡_, refl, ap, sym, _∙_}
@@ -20,7 +22,8 @@ use Rattle.places.specs.Layout.{bookSize}
 for n, S, R, w in T:
     P = n.capitalize()
     out += f"use Rattle.places.specs.declared.{S}.{{{S}}}\n"
-    out += f"use Rattle.places.specs.Layout.{{{n}Places, {n}At, put{P}, zero{P}, {n}Widths, {n}Numbers}}\n"
+    zero = f"zero{P}, " if n in FEWER else ""
+    out += f"use Rattle.places.specs.Layout.{{{n}Places, {n}At, put{P}, {zero}{n}Widths, {n}Numbers}}\n"
     out += f"use Rattle.places.proofs.Stores.{{{n}-back, {n}-other, " + ", ".join(f"{m}-by-{n}" for m, *_ in T if m != n) + "}\n"
     out += f"use Rattle.records.specs.Said.{{{n}Of}}\n"
     out += f"use Rattle.book.specs.Lone.{{{n}sOf}}\n"
@@ -31,7 +34,6 @@ for n, S, R, w in T:
         if m != n:
             out += f"  pub {m}s-by-{n} : (a : ℕ) → {m}sOf a (put{P} b i r) ≡ {m}sOf a b\n  unfolding {m}sOf\n"
             out += f"  {m}s-by-{n} a = lone-same (λ x. x .csd) {m}Of a ({m}At b) ({m}At (put{P} b i r)) {m}Places ({m}-by-{n} b i r place)\n\n"
-    ten = "(r .values)" if n == "row" else ""
     len1 = "length (r .values) ≡ 10 → " if n == "row" else ""
     len0 = "refl " if n == "row" else ""
     lv = "v " if n == "row" else ""
@@ -51,7 +53,9 @@ for n, S, R, w in T:
       rw e at (lone-added (λ x. x .csd) {n}Of (r .csd) ({n}At b) ({n}At (put{P} b i r)) i {n}Places place (λ k l. {n}-other b i r k) d (ap (λ x. x .csd) e) p)
 
 module _ (b : List ℕ) (i c : ℕ) (t : M.{R} → Bool) (place : i < {n}Places) (size : length b ≡ bookSize) (own : {n}At b i .csd ≡ c) (hit : t ({n}Of ({n}At b i)) ≡ true) (once : count t ({n}sOf c b) ≤ 1) where
-  -- a record fewer
+"""
+    if n in FEWER:
+        out += f"""  -- a record fewer
   pub {n}s-removed : 1 ≤ c → {n}sOf c (put{P} b i zero{P}) ≡ without t ({n}sOf c b)
   unfolding {n}sOf without
   {n}s-removed l =
@@ -60,8 +64,11 @@ module _ (b : List ℕ) (i c : ℕ) (t : M.{R} → Bool) (place : i < {n}Places)
     where
       zeros-hold : Hold {n}Widths ({n}Numbers zero{P})
       zeros-hold = {"(lit< tt, " * w}tt{")" * w}
-
-  -- a record changed where it stands
+"""
+    if n in FEWER and n in CHANGED:
+        out += "\n"
+    if n in CHANGED:
+        out += f"""  -- a record changed where it stands
   pub {n}s-changed : (r : {S}) (g : M.{R} → M.{R}) → {len1}Hold {n}Widths ({n}Numbers r) → r .csd ≡ c → {n}Of r ≡ g ({n}Of ({n}At b i)) → {n}sOf c (put{P} b i r) ≡ change t g ({n}sOf c b)
   unfolding {n}sOf change
   {n}s-changed r g {lv}h o f =

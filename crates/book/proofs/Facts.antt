@@ -5,8 +5,8 @@ use mathlib.Core.Bool.{Bool, true, false, _||_}
 use mathlib.Core.List.{List}
 use native.Mathlib.Omega.{arith}
 use lib.ListN.{length}
-use borrow.Author.Tests.{eqb-true, eq-eqb, leb-true}
-use Rattle.tables.proofs.Counts.{ands, all-at, all-put}
+use borrow.Author.Tests.{eqb-true, leb-true}
+use Rattle.tables.proofs.Counts.{ands, all-at}
 use Rattle.meaning.specs.Records as M
 use Rattle.meaning.specs.Fields.{within}
 use Rattle.meaning.specs.Sound.{quotas, soundLone}
@@ -36,18 +36,6 @@ facts-of-sound b e = record {
       let z : a - 1 + 1 ≡ a = omega arith in
       rw z at (all-at (λ a. soundLone (loneBook (a + 1) b)) 8 (search ands) (a - 1) (omega arith));
 }
-
-pub sound-of-facts : (b : List ℕ) → GoodBook b → sound b ≡ true
-unfolding sound allPlaced placed
-sound-of-facts b g =
-    rw (
-      eq-eqb (length b) bookSize (g .size),
-      all-put (λ k. typeZero (typeAt b k) || within 1 8 (typeAt b k .csd)) typePlaces (g .types),
-      all-put (λ k. ruleZero (ruleAt b k) || within 1 8 (ruleAt b k .csd)) rulePlaces (g .rules),
-      all-put (λ k. rowZero (rowAt b k) || within 1 8 (rowAt b k .csd)) rowPlaces (g .rows),
-      all-put (λ k. periodZero (periodAt b k) || within 1 8 (periodAt b k .csd)) periodPlaces (g .periods),
-      all-put (λ a. soundLone (loneBook (a + 1) b)) 8 (λ a l. g .lone (a + 1) (omega arith) (omega arith)),
-    )
 
 -- ---- a place that is not free is a depository's, and a depository's lists are within their quotas
 

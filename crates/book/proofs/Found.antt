@@ -7,7 +7,7 @@ use mathlib.Core.List.{List}
 use native.Mathlib.Omega.{arith}
 use lib.ListN.{length}
 use Rattle.tables.specs.Count.{count}
-use Rattle.tables.proofs.Found.{found, missed, found-free}
+use Rattle.tables.proofs.Found.{found, found-free}
 use Rattle.meaning.specs.Records as M
 use Rattle.places.specs.Layout.{typePlaces, typeAt, rulePlaces, ruleAt, rowPlaces, rowAt, periodPlaces, periodAt}
 use Rattle.records.specs.declared.TypeAsk.{TypeAsk}
@@ -29,10 +29,6 @@ module _ (b : List ℕ) (a : ℕ) (q : TypeAsk) where
   unfolding typesOf typePlace typeHit
   found-type h = found (λ r. r .csd) typeOf (typeAt b) typePlaces a (typeMeets q) h
 
-  pub missed-type : count (typeMeets q) (typesOf a b) ≡ 0 → typePlace b a q ≡ typePlaces
-  unfolding typesOf typePlace typeHit
-  missed-type h = missed (λ r. r .csd) typeOf (typeAt b) typePlaces a (typeMeets q) h
-
 pub free-type : (b : List ℕ) → GoodBook b → (c : ℕ) → 1 ≤ c → c ≤ 8 → length (typesOf c b) < M.typeQuota → (typePlace b 0 Types.Any < typePlaces) × (typeAt b (typePlace b 0 Types.Any) .csd ≡ 0)
 unfolding typesOf typePlace typeHit typeMeets
 free-type b g c low high room =
@@ -42,10 +38,6 @@ module _ (b : List ℕ) (a : ℕ) (q : RuleAsk) (w : M.Row) where
   pub found-rule : 0 < count (ruleMeets q w) (rulesOf a b) → (rulePlace b a q w < rulePlaces) × (ruleAt b (rulePlace b a q w) .csd ≡ a) × (ruleMeets q w (ruleOf (ruleAt b (rulePlace b a q w))) ≡ true)
   unfolding rulesOf rulePlace ruleHit
   found-rule h = found (λ r. r .csd) ruleOf (ruleAt b) rulePlaces a (ruleMeets q w) h
-
-  pub missed-rule : count (ruleMeets q w) (rulesOf a b) ≡ 0 → rulePlace b a q w ≡ rulePlaces
-  unfolding rulesOf rulePlace ruleHit
-  missed-rule h = missed (λ r. r .csd) ruleOf (ruleAt b) rulePlaces a (ruleMeets q w) h
 
 pub free-rule : (b : List ℕ) (w : M.Row) → GoodBook b → (c : ℕ) → 1 ≤ c → c ≤ 8 → length (rulesOf c b) < M.ruleQuota → (rulePlace b 0 Rules.Any w < rulePlaces) × (ruleAt b (rulePlace b 0 Rules.Any w) .csd ≡ 0)
 unfolding rulesOf rulePlace ruleHit ruleMeets
@@ -57,10 +49,6 @@ module _ (b : List ℕ) (a : ℕ) (q : RowAsk) (w : M.Row) where
   unfolding rowsOf rowPlace rowHit
   found-row h = found (λ r. r .csd) rowOf (rowAt b) rowPlaces a (rowMeets q w) h
 
-  pub missed-row : count (rowMeets q w) (rowsOf a b) ≡ 0 → rowPlace b a q w ≡ rowPlaces
-  unfolding rowsOf rowPlace rowHit
-  missed-row h = missed (λ r. r .csd) rowOf (rowAt b) rowPlaces a (rowMeets q w) h
-
 pub free-row : (b : List ℕ) (w : M.Row) → GoodBook b → (c : ℕ) → 1 ≤ c → c ≤ 8 → length (rowsOf c b) < M.rowQuota → (rowPlace b 0 Rows.Any w < rowPlaces) × (rowAt b (rowPlace b 0 Rows.Any w) .csd ≡ 0)
 unfolding rowsOf rowPlace rowHit rowMeets
 free-row b w g c low high room =
@@ -70,10 +58,6 @@ module _ (b : List ℕ) (a : ℕ) (q : PeriodAsk) where
   pub found-period : 0 < count (periodMeets q) (periodsOf a b) → (periodPlace b a q < periodPlaces) × (periodAt b (periodPlace b a q) .csd ≡ a) × (periodMeets q (periodOf (periodAt b (periodPlace b a q))) ≡ true)
   unfolding periodsOf periodPlace periodHit
   found-period h = found (λ r. r .csd) periodOf (periodAt b) periodPlaces a (periodMeets q) h
-
-  pub missed-period : count (periodMeets q) (periodsOf a b) ≡ 0 → periodPlace b a q ≡ periodPlaces
-  unfolding periodsOf periodPlace periodHit
-  missed-period h = missed (λ r. r .csd) periodOf (periodAt b) periodPlaces a (periodMeets q) h
 
 pub free-period : (b : List ℕ) → GoodBook b → (c : ℕ) → 1 ≤ c → c ≤ 8 → length (periodsOf c b) < M.periodQuota → (periodPlace b 0 Periods.Any < periodPlaces) × (periodAt b (periodPlace b 0 Periods.Any) .csd ≡ 0)
 unfolding periodsOf periodPlace periodHit periodMeets

@@ -12,7 +12,7 @@ use Rattle.tables.proofs.Lone.{lone-same, lone-removed, lone-changed, lone-stil
 use Rattle.meaning.specs.Records as M
 use Rattle.places.specs.Layout.{bookSize}
 use Rattle.places.specs.declared.RestrictionType.{RestrictionType}
-use Rattle.places.specs.Layout.{typePlaces, typeAt, putType, zeroType, typeWidths, typeNumbers}
+use Rattle.places.specs.Layout.{typePlaces, typeAt, putType, typeWidths, typeNumbers}
 use Rattle.places.proofs.Stores.{type-back, type-other, rule-by-type, row-by-type, period-by-type}
 use Rattle.records.specs.Said.{typeOf}
 use Rattle.book.specs.Lone.{typesOf}
@@ -27,7 +27,7 @@ use Rattle.places.proofs.Stores.{row-back, row-other, type-by-row, rule-by-row,
 use Rattle.records.specs.Said.{rowOf}
 use Rattle.book.specs.Lone.{rowsOf}
 use Rattle.places.specs.declared.Period.{Period}
-use Rattle.places.specs.Layout.{periodPlaces, periodAt, putPeriod, zeroPeriod, periodWidths, periodNumbers}
+use Rattle.places.specs.Layout.{periodPlaces, periodAt, putPeriod, periodWidths, periodNumbers}
 use Rattle.places.proofs.Stores.{period-back, period-other, type-by-period, rule-by-period, row-by-period}
 use Rattle.records.specs.Said.{periodOf}
 use Rattle.book.specs.Lone.{periodsOf}
@@ -63,16 +63,6 @@ module _ (b : List ℕ) (i : ℕ) (r : RestrictionType) (place : i < typePlaces)
       rw e at (lone-added (λ x. x .csd) typeOf (r .csd) (typeAt b) (typeAt (putType b i r)) i typePlaces place (λ k l. type-other b i r k) d (ap (λ x. x .csd) e) p)
 
 module _ (b : List ℕ) (i c : ℕ) (t : M.TypeRecord → Bool) (place : i < typePlaces) (size : length b ≡ bookSize) (own : typeAt b i .csd ≡ c) (hit : t (typeOf (typeAt b i)) ≡ true) (once : count t (typesOf c b) ≤ 1) where
-  -- a record fewer
-  pub types-removed : 1 ≤ c → typesOf c (putType b i zeroType) ≡ without t (typesOf c b)
-  unfolding typesOf without
-  types-removed l =
-      lone-removed (λ x. x .csd) typeOf c t (typeAt b) i typePlaces place own hit once (typeAt (putType b i zeroType)) (λ k l. type-other b i zeroType k)
-      (λ q. omega (arith, sym (ap (λ x. x .csd) (type-back b i zeroType zeros-hold (omega arith))) ∙ q)) typePlaces (omega arith)
-    where
-      zeros-hold : Hold typeWidths (typeNumbers zeroType)
-      zeros-hold = (lit< tt, (lit< tt, (lit< tt, (lit< tt, (lit< tt, (lit< tt, tt))))))
-
   -- a record changed where it stands
   pub types-changed : (r : RestrictionType) (g : M.TypeRecord → M.TypeRecord) → Hold typeWidths (typeNumbers r) → r .csd ≡ c → typeOf r ≡ g (typeOf (typeAt b i)) → typesOf c (putType b i r) ≡ change t g (typesOf c b)
   unfolding typesOf change
@@ -171,14 +161,6 @@ module _ (b : List ℕ) (i c : ℕ) (t : M.Row → Bool) (place : i < rowPlaces)
       zeros-hold : Hold rowWidths (rowNumbers zeroRow)
       zeros-hold = (lit< tt, (lit< tt, (lit< tt, (lit< tt, (lit< tt, (lit< tt, (lit< tt, (lit< tt, (lit< tt, (lit< tt, (lit< tt, (lit< tt, (lit< tt, (lit< tt, tt))))))))))))))
 
-  -- a record changed where it stands
-  pub rows-changed : (r : Row) (g : M.Row → M.Row) → length (r .values) ≡ 10 → Hold rowWidths (rowNumbers r) → r .csd ≡ c → rowOf r ≡ g (rowOf (rowAt b i)) → rowsOf c (putRow b i r) ≡ change t g (rowsOf c b)
-  unfolding rowsOf change
-  rows-changed r g v h o f =
-      let e = row-back b i r v h (omega arith) in
-      lone-changed (λ x. x .csd) rowOf c t (rowAt b) i rowPlaces place own hit once (rowAt (putRow b i r)) (λ k l. row-other b i r k) g
-      (ap (λ x. x .csd) e ∙ o) (ap rowOf e ∙ f) rowPlaces (omega arith)
-
 -- ---- periods
 
 module _ (b : List ℕ) (i : ℕ) (r : Period) (place : i < periodPlaces) where
@@ -210,16 +192,6 @@ module _ (b : List ℕ) (i : ℕ) (r : Period) (place : i < periodPlaces) where
       rw e at (lone-added (λ x. x .csd) periodOf (r .csd) (periodAt b) (periodAt (putPeriod b i r)) i periodPlaces place (λ k l. period-other b i r k) d (ap (λ x. x .csd) e) p)
 
 module _ (b : List ℕ) (i c : ℕ) (t : M.Period → Bool) (place : i < periodPlaces) (size : length b ≡ bookSize) (own : periodAt b i .csd ≡ c) (hit : t (periodOf (periodAt b i)) ≡ true) (once : count t (periodsOf c b) ≤ 1) where
-  -- a record fewer
-  pub periods-removed : 1 ≤ c → periodsOf c (putPeriod b i zeroPeriod) ≡ without t (periodsOf c b)
-  unfolding periodsOf without
-  periods-removed l =
-      lone-removed (λ x. x .csd) periodOf c t (periodAt b) i periodPlaces place own hit once (periodAt (putPeriod b i zeroPeriod)) (λ k l. period-other b i zeroPeriod k)
-      (λ q. omega (arith, sym (ap (λ x. x .csd) (period-back b i zeroPeriod zeros-hold (omega arith))) ∙ q)) periodPlaces (omega arith)
-    where
-      zeros-hold : Hold periodWidths (periodNumbers zeroPeriod)
-      zeros-hold = (lit< tt, (lit< tt, (lit< tt, (lit< tt, (lit< tt, (lit< tt, tt))))))
-
   -- a record changed where it stands
   pub periods-changed : (r : Period) (g : M.Period → M.Period) → Hold periodWidths (periodNumbers r) → r .csd ≡ c → periodOf r ≡ g (periodOf (periodAt b i)) → periodsOf c (putPeriod b i r) ≡ change t g (periodsOf c b)
   unfolding periodsOf change

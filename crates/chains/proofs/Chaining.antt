@@ -21,10 +21,6 @@ last-more : (p : ℕ → Bool) (n : ℕ) → lastBelow p (n + 1) ≡ cond (p n) 
 unfolding lastBelow
 last-more p n = rw add-one
 
-last-none : (p : ℕ → Bool) → lastBelow p 0 ≡ 0
-unfolding lastBelow
-last-none p = refl
-
 -- ---- walking a chain
 
 chain-end : (next : List ℕ) (p : ℕ → Bool) (n k : ℕ) → k ≡ 0 → chainHas next p n k ≡ false
