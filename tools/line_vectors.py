@@ -4,13 +4,79 @@
 Usage: line_vectors.py VECTORS   (in the repository's root; VECTORS has NAME.in and NAME.out)
 A line of NAME.in has the refusal of NAME.out if that is F,2 to F,5; any other answer means that it is read, 0.
 Of each first byte and each refusal the first EACH lines are taken, then the lines below.
+The program writes a refused line's refusal, and the letter of a line that is read. read_line does not give refusal 5 where each field is of
+its form and only the fields together are wrong: such a line is read.
 """
+import datetime
 import sys
 
 EACH = 8
 LETTERS = b"TERODMNAZQ"
 vectors = sys.argv[1]
 
+
+# ---- document 01's forms of a field
+
+def up_to(most):
+    return lambda f: f.isdigit() and f[:1] != b"0" and int(f) <= most
+
+
+def code(f):
+    return up_to(9999)(f) and int(f) // 100 > 0 and int(f) % 100 > 0
+
+
+def day(f):
+    if not (len(f) == 8 and f.isdigit() and b"2000" <= f[:4] <= b"2099"):
+        return False
+    try:
+        datetime.date(int(f[:4]), int(f[4:6]), int(f[6:]))
+        return True
+    except ValueError:
+        return False
+
+
+def letters(n):
+    return lambda f: len(f) == n and f.isalpha() and f.isupper()
+
+
+def one_of(words):
+    return lambda f: f in words.split()
+
+
+def optional(form):
+    return lambda f: f == b"" or form(f)
+
+
+MOVEMENT, PAYMENT = one_of(b"DELI RECE"), one_of(b"APMT FREE")
+KEY = [up_to(8), day, up_to(99), up_to(2)]
+TEN = [up_to(3), MOVEMENT, PAYMENT, letters(4), up_to(999999), up_to(999999), code, code, code, letters(3)]
+PERIOD = [up_to(8), day, one_of(b"P A S"), up_to(999999), code, day, day]
+FORMS = {
+    b"T": KEY + [up_to(3), day, day],
+    b"E": KEY + [day],
+    b"R": KEY + [up_to(99), one_of(b"P N"), up_to(1023), day, day],
+    b"O": KEY + [up_to(99), up_to(99)],
+    b"D": KEY + [up_to(99)],
+    b"M": KEY + [up_to(99)] + [optional(f) for f in TEN],
+    b"N": KEY + [up_to(99)] + [optional(f) for f in TEN],
+    b"A": PERIOD,
+    b"Z": PERIOD,
+    b"Q": [up_to(8), day, up_to(2), up_to(3)] + [optional(f) for f in (MOVEMENT, PAYMENT, letters(4), letters(3))] + [up_to(999999)] * 3,
+}
+
+
+def shown(line, refusal):
+    """What the program writes of a line that the vectors refuse so, 0 for none."""
+    head, *fields = line.split(b",")
+    if refusal in (2, 3, 4):
+        return b"%d" % refusal
+    assert len(FORMS[head]) == len(fields)
+    of_form = all(form(f) for form, f in zip(FORMS[head], fields))
+    assert of_form or refusal == 5
+    return head if of_form else b"5"
+
+
+# ---- the lines
 
 def lines(name):
     text = open(f"{vectors}/{name}.in", "rb").read().split(b"\n")
@@ -64,6 +130,6 @@ for refusal in (0, 2, 3, 4, 5):
     assert any(r == refusal for _, r in taken)
 # a final byte 10 is followed by no line, so the last line goes without
 open("crates/line_main/stdin", "wb").write(b"\n".join(l for l, _ in taken))
-out = [b"%d" % r for _, r in taken] + PRINTED
+out = [shown(l, r) for l, r in taken] + PRINTED
 open("crates/line_main/stdout", "wb").write(b"\n".join(out) + b"\n")
 print(len(taken), "lines;", {r: sum(x == r for _, x in taken) for r in (0, 2, 3, 4, 5)}, len(b"\n".join(l for l, _ in taken)), "bytes")

@@ -4,7 +4,7 @@ use mathlib.Core.Path.{_≡_}
 use mathlib.Core.Bool.{Bool, false}
 use mathlib.Core.List.{List}
 use Rattle.meaning.specs.Records as M
-use Rattle.places.specs.Layout.{typeAt, ruleAt, rowAt, periodAt}
+use Rattle.places.specs.Layout.{typePlaces, typeAt, rulePlaces, ruleAt, rowPlaces, rowAt, periodPlaces, periodAt}
 use Rattle.places.specs.declared.RestrictionType.{RestrictionType}
 use Rattle.records.specs.declared.TypeAsk.{TypeAsk}
 use Rattle.places.specs.declared.Rule.{Rule}
@@ -34,20 +34,20 @@ pub type-miss : (b : List ℕ) (a k : ℕ) (q : TypeAsk) (c : ℕ) → c ≡ typ
 unfolding typeHit
 type-miss b a k q c e f = miss (λ x. x .csd) (λ x. typeMeets q (typeOf x)) a (typeAt b k) c e f
 
-pub type-between : (b : List ℕ) (a i k : ℕ) → k ≡ nextType b a i → i ≤ 128 → (i ≤ k) × (k ≤ 128)
+pub type-between : (b : List ℕ) (a i k : ℕ) → k ≡ nextType b a i → i ≤ typePlaces → (i ≤ k) × (k ≤ typePlaces)
 unfolding nextType
-type-between b a i k e l = next-within _ 128 i k e l
+type-between b a i k e l = next-within _ typePlaces i k e l
 
 module _ (b : List ℕ) (a : ℕ) (q : TypeAsk) (n i : ℕ) where
-  pub type-counted : (k d : ℕ) {t : Bool} → d ≡ bit t → t ≡ typeHit b a q k → k ≡ nextType b a i → i ≤ 128 → n ≡ countBelow (typeHit b a q) i → n + d ≡ countBelow (typeHit b a q) (k + 1)
+  pub type-counted : (k d : ℕ) {t : Bool} → d ≡ bit t → t ≡ typeHit b a q k → k ≡ nextType b a i → i ≤ typePlaces → n ≡ countBelow (typeHit b a q) i → n + d ≡ countBelow (typeHit b a q) (k + 1)
   unfolding typeHit nextType
-  type-counted k d {t} x y e l c = counted-next (λ x. x .csd) (typeAt b) 128 a i k e l (λ x. typeMeets q (typeOf x)) n c d t x y
+  type-counted k d {t} x y e l c = counted-next (λ x. x .csd) (typeAt b) typePlaces a i k e l (λ x. typeMeets q (typeOf x)) n c d t x y
 
-  pub type-none-left : (k : ℕ) → k ≡ 128 → k ≡ nextType b a i → i ≤ 128 → n ≡ countBelow (typeHit b a q) i → n ≡ count (typeMeets q) (typesOf a b)
+  pub type-none-left : (k : ℕ) → k ≡ typePlaces → k ≡ nextType b a i → i ≤ typePlaces → n ≡ countBelow (typeHit b a q) i → n ≡ count (typeMeets q) (typesOf a b)
   unfolding typeHit nextType typesOf
-  type-none-left k x e l c = rw count-lone (counted-last (λ x. x .csd) (typeAt b) 128 a i k e l (λ x. typeMeets q (typeOf x)) n c x)
+  type-none-left k x e l c = rw count-lone (counted-last (λ x. x .csd) (typeAt b) typePlaces a i k e l (λ x. typeMeets q (typeOf x)) n c x)
 
-  pub type-all : i ≡ 128 → n ≡ countBelow (typeHit b a q) i → n ≡ count (typeMeets q) (typesOf a b)
+  pub type-all : i ≡ typePlaces → n ≡ countBelow (typeHit b a q) i → n ≡ count (typeMeets q) (typesOf a b)
   unfolding typeHit typesOf
   type-all x c = rw count-lone (rw x at c)
 
@@ -61,20 +61,20 @@ pub rule-miss : (b : List ℕ) (a k : ℕ) (q : RuleAsk) (w : M.Row) (c : ℕ) �
 unfolding ruleHit
 rule-miss b a k q w c e f = miss (λ x. x .csd) (λ x. ruleMeets q w (ruleOf x)) a (ruleAt b k) c e f
 
-pub rule-between : (b : List ℕ) (a i k : ℕ) → k ≡ nextRule b a i → i ≤ 512 → (i ≤ k) × (k ≤ 512)
+pub rule-between : (b : List ℕ) (a i k : ℕ) → k ≡ nextRule b a i → i ≤ rulePlaces → (i ≤ k) × (k ≤ rulePlaces)
 unfolding nextRule
-rule-between b a i k e l = next-within _ 512 i k e l
+rule-between b a i k e l = next-within _ rulePlaces i k e l
 
 module _ (b : List ℕ) (a : ℕ) (q : RuleAsk) (w : M.Row) (n i : ℕ) where
-  pub rule-counted : (k d : ℕ) {t : Bool} → d ≡ bit t → t ≡ ruleHit b a q w k → k ≡ nextRule b a i → i ≤ 512 → n ≡ countBelow (ruleHit b a q w) i → n + d ≡ countBelow (ruleHit b a q w) (k + 1)
+  pub rule-counted : (k d : ℕ) {t : Bool} → d ≡ bit t → t ≡ ruleHit b a q w k → k ≡ nextRule b a i → i ≤ rulePlaces → n ≡ countBelow (ruleHit b a q w) i → n + d ≡ countBelow (ruleHit b a q w) (k + 1)
   unfolding ruleHit nextRule
-  rule-counted k d {t} x y e l c = counted-next (λ x. x .csd) (ruleAt b) 512 a i k e l (λ x. ruleMeets q w (ruleOf x)) n c d t x y
+  rule-counted k d {t} x y e l c = counted-next (λ x. x .csd) (ruleAt b) rulePlaces a i k e l (λ x. ruleMeets q w (ruleOf x)) n c d t x y
 
-  pub rule-none-left : (k : ℕ) → k ≡ 512 → k ≡ nextRule b a i → i ≤ 512 → n ≡ countBelow (ruleHit b a q w) i → n ≡ count (ruleMeets q w) (rulesOf a b)
+  pub rule-none-left : (k : ℕ) → k ≡ rulePlaces → k ≡ nextRule b a i → i ≤ rulePlaces → n ≡ countBelow (ruleHit b a q w) i → n ≡ count (ruleMeets q w) (rulesOf a b)
   unfolding ruleHit nextRule rulesOf
-  rule-none-left k x e l c = rw count-lone (counted-last (λ x. x .csd) (ruleAt b) 512 a i k e l (λ x. ruleMeets q w (ruleOf x)) n c x)
+  rule-none-left k x e l c = rw count-lone (counted-last (λ x. x .csd) (ruleAt b) rulePlaces a i k e l (λ x. ruleMeets q w (ruleOf x)) n c x)
 
-  pub rule-all : i ≡ 512 → n ≡ countBelow (ruleHit b a q w) i → n ≡ count (ruleMeets q w) (rulesOf a b)
+  pub rule-all : i ≡ rulePlaces → n ≡ countBelow (ruleHit b a q w) i → n ≡ count (ruleMeets q w) (rulesOf a b)
   unfolding ruleHit rulesOf
   rule-all x c = rw count-lone (rw x at c)
 
@@ -88,20 +88,20 @@ pub row-miss : (b : List ℕ) (a k : ℕ) (q : RowAsk) (w : M.Row) (c : ℕ) →
 unfolding rowHit
 row-miss b a k q w c e f = miss (λ x. x .csd) (λ x. rowMeets q w (rowOf x)) a (rowAt b k) c e f
 
-pub row-between : (b : List ℕ) (a i k : ℕ) → k ≡ nextRow b a i → i ≤ 1024 → (i ≤ k) × (k ≤ 1024)
+pub row-between : (b : List ℕ) (a i k : ℕ) → k ≡ nextRow b a i → i ≤ rowPlaces → (i ≤ k) × (k ≤ rowPlaces)
 unfolding nextRow
-row-between b a i k e l = next-within _ 1024 i k e l
+row-between b a i k e l = next-within _ rowPlaces i k e l
 
 module _ (b : List ℕ) (a : ℕ) (q : RowAsk) (w : M.Row) (n i : ℕ) where
-  pub row-counted : (k d : ℕ) {t : Bool} → d ≡ bit t → t ≡ rowHit b a q w k → k ≡ nextRow b a i → i ≤ 1024 → n ≡ countBelow (rowHit b a q w) i → n + d ≡ countBelow (rowHit b a q w) (k + 1)
+  pub row-counted : (k d : ℕ) {t : Bool} → d ≡ bit t → t ≡ rowHit b a q w k → k ≡ nextRow b a i → i ≤ rowPlaces → n ≡ countBelow (rowHit b a q w) i → n + d ≡ countBelow (rowHit b a q w) (k + 1)
   unfolding rowHit nextRow
-  row-counted k d {t} x y e l c = counted-next (λ x. x .csd) (rowAt b) 1024 a i k e l (λ x. rowMeets q w (rowOf x)) n c d t x y
+  row-counted k d {t} x y e l c = counted-next (λ x. x .csd) (rowAt b) rowPlaces a i k e l (λ x. rowMeets q w (rowOf x)) n c d t x y
 
-  pub row-none-left : (k : ℕ) → k ≡ 1024 → k ≡ nextRow b a i → i ≤ 1024 → n ≡ countBelow (rowHit b a q w) i → n ≡ count (rowMeets q w) (rowsOf a b)
+  pub row-none-left : (k : ℕ) → k ≡ rowPlaces → k ≡ nextRow b a i → i ≤ rowPlaces → n ≡ countBelow (rowHit b a q w) i → n ≡ count (rowMeets q w) (rowsOf a b)
   unfolding rowHit nextRow rowsOf
-  row-none-left k x e l c = rw count-lone (counted-last (λ x. x .csd) (rowAt b) 1024 a i k e l (λ x. rowMeets q w (rowOf x)) n c x)
+  row-none-left k x e l c = rw count-lone (counted-last (λ x. x .csd) (rowAt b) rowPlaces a i k e l (λ x. rowMeets q w (rowOf x)) n c x)
 
-  pub row-all : i ≡ 1024 → n ≡ countBelow (rowHit b a q w) i → n ≡ count (rowMeets q w) (rowsOf a b)
+  pub row-all : i ≡ rowPlaces → n ≡ countBelow (rowHit b a q w) i → n ≡ count (rowMeets q w) (rowsOf a b)
   unfolding rowHit rowsOf
   row-all x c = rw count-lone (rw x at c)
 
@@ -115,19 +115,19 @@ pub period-miss : (b : List ℕ) (a k : ℕ) (q : PeriodAsk) (c : ℕ) → c ≡
 unfolding periodHit
 period-miss b a k q c e f = miss (λ x. x .csd) (λ x. periodMeets q (periodOf x)) a (periodAt b k) c e f
 
-pub period-between : (b : List ℕ) (a i k : ℕ) → k ≡ nextPeriod b a i → i ≤ 1024 → (i ≤ k) × (k ≤ 1024)
+pub period-between : (b : List ℕ) (a i k : ℕ) → k ≡ nextPeriod b a i → i ≤ periodPlaces → (i ≤ k) × (k ≤ periodPlaces)
 unfolding nextPeriod
-period-between b a i k e l = next-within _ 1024 i k e l
+period-between b a i k e l = next-within _ periodPlaces i k e l
 
 module _ (b : List ℕ) (a : ℕ) (q : PeriodAsk) (n i : ℕ) where
-  pub period-counted : (k d : ℕ) {t : Bool} → d ≡ bit t → t ≡ periodHit b a q k → k ≡ nextPeriod b a i → i ≤ 1024 → n ≡ countBelow (periodHit b a q) i → n + d ≡ countBelow (periodHit b a q) (k + 1)
+  pub period-counted : (k d : ℕ) {t : Bool} → d ≡ bit t → t ≡ periodHit b a q k → k ≡ nextPeriod b a i → i ≤ periodPlaces → n ≡ countBelow (periodHit b a q) i → n + d ≡ countBelow (periodHit b a q) (k + 1)
   unfolding periodHit nextPeriod
-  period-counted k d {t} x y e l c = counted-next (λ x. x .csd) (periodAt b) 1024 a i k e l (λ x. periodMeets q (periodOf x)) n c d t x y
+  period-counted k d {t} x y e l c = counted-next (λ x. x .csd) (periodAt b) periodPlaces a i k e l (λ x. periodMeets q (periodOf x)) n c d t x y
 
-  pub period-none-left : (k : ℕ) → k ≡ 1024 → k ≡ nextPeriod b a i → i ≤ 1024 → n ≡ countBelow (periodHit b a q) i → n ≡ count (periodMeets q) (periodsOf a b)
+  pub period-none-left : (k : ℕ) → k ≡ periodPlaces → k ≡ nextPeriod b a i → i ≤ periodPlaces → n ≡ countBelow (periodHit b a q) i → n ≡ count (periodMeets q) (periodsOf a b)
   unfolding periodHit nextPeriod periodsOf
-  period-none-left k x e l c = rw count-lone (counted-last (λ x. x .csd) (periodAt b) 1024 a i k e l (λ x. periodMeets q (periodOf x)) n c x)
+  period-none-left k x e l c = rw count-lone (counted-last (λ x. x .csd) (periodAt b) periodPlaces a i k e l (λ x. periodMeets q (periodOf x)) n c x)
 
-  pub period-all : i ≡ 1024 → n ≡ countBelow (periodHit b a q) i → n ≡ count (periodMeets q) (periodsOf a b)
+  pub period-all : i ≡ periodPlaces → n ≡ countBelow (periodHit b a q) i → n ≡ count (periodMeets q) (periodsOf a b)
   unfolding periodHit periodsOf
   period-all x c = rw count-lone (rw x at c)

@@ -13,7 +13,7 @@ use Rattle.tables.proofs.Zeros.{length-zeros, numbers-zeros, lone-none}
 use Rattle.meaning.specs.Records as M
 use Rattle.meaning.specs.Fields.{within}
 use Rattle.meaning.specs.Sound.{soundLone}
-use Rattle.places.specs.Layout.{typeStart, ruleStart, rowStart, periodStart, typeWidths, ruleWidths, rowWidths, periodWidths, typeFrom, ruleFrom, rowFrom, periodFrom, typeAt, ruleAt, rowAt, periodAt, zeroType, zeroRule, zeroRow, zeroPeriod}
+use Rattle.places.specs.Layout.{typeStart, ruleStart, rowStart, periodStart, typeWidths, ruleWidths, rowWidths, periodWidths, typeFrom, ruleFrom, rowFrom, periodFrom, typeAt, ruleAt, rowAt, periodAt, zeroType, zeroRule, zeroRow, zeroPeriod, bookSize, typePlaces, rulePlaces, rowPlaces, periodPlaces}
 use Rattle.records.specs.Said.{typeOf, ruleOf, rowOf, periodOf}
 use Rattle.records.specs.Free.{allZero, typeZero, ruleZero, rowZero, periodZero}
 use Rattle.book.specs.Lone.{typesOf, rulesOf, rowsOf, periodsOf, loneBook}
@@ -22,16 +22,16 @@ use Rattle.book.specs.Emptied.{emptyAnswer, emptyBytes, Emptied}
 
 -- ---- what empty does
 
-pub emptied-yes : (b b′ : List ℕ) → length b ≡ 51200 → b′ ≡ zeros (length b) → Emptied b b′ 0
+pub emptied-yes : (b b′ : List ℕ) → length b ≡ bookSize → b′ ≡ zeros (length b) → Emptied b b′ 0
 unfolding emptyAnswer emptyBytes
 emptied-yes b b′ l e = record {
-  answered = rw (eq-eqb (length b) 51200 l);
-  bytes = rw (eq-eqb (length b) 51200 l) (e ∙ ap zeros l);
+  answered = rw (eq-eqb (length b) bookSize l);
+  bytes = rw (eq-eqb (length b) bookSize l) (e ∙ ap zeros l);
 }
 
-pub emptied-no : (b : List ℕ) → (length b ≡ 51200 → ⊥) → Emptied b b 1
+pub emptied-no : (b : List ℕ) → (length b ≡ bookSize → ⊥) → Emptied b b 1
 unfolding emptyAnswer emptyBytes
-emptied-no b h = record { answered = rw (ne-eqb (length b) 51200 h); bytes = rw (ne-eqb (length b) 51200 h) }
+emptied-no b h = record { answered = rw (ne-eqb (length b) bookSize h); bytes = rw (ne-eqb (length b) bookSize h) }
 
 -- ---- every place is zero
 
@@ -56,10 +56,10 @@ period-zeros n k = ap periodFrom (numbers-zeros periodWidths n (periodStart k) 0
 pub lone-zeros : (n a : ℕ) → 1 ≤ a → loneBook a (zeros n) ≡ M.empty
 unfolding typesOf rulesOf rowsOf periodsOf
 lone-zeros n a l =
-    let t = lone-none (λ r. r .csd) typeOf a (typeAt (zeros n)) 128 l (λ k. ap (λ r. r .csd) (type-zeros n k)) in
-    let r = lone-none (λ r. r .csd) ruleOf a (ruleAt (zeros n)) 512 l (λ k. ap (λ r. r .csd) (rule-zeros n k)) in
-    let w = lone-none (λ r. r .csd) rowOf a (rowAt (zeros n)) 1024 l (λ k. ap (λ r. r .csd) (row-zeros n k)) in
-    let p = lone-none (λ r. r .csd) periodOf a (periodAt (zeros n)) 1024 l (λ k. ap (λ r. r .csd) (period-zeros n k)) in
+    let t = lone-none (λ r. r .csd) typeOf a (typeAt (zeros n)) typePlaces l (λ k. ap (λ r. r .csd) (type-zeros n k)) in
+    let r = lone-none (λ r. r .csd) ruleOf a (ruleAt (zeros n)) rulePlaces l (λ k. ap (λ r. r .csd) (rule-zeros n k)) in
+    let w = lone-none (λ r. r .csd) rowOf a (rowAt (zeros n)) rowPlaces l (λ k. ap (λ r. r .csd) (row-zeros n k)) in
+    let p = lone-none (λ r. r .csd) periodOf a (periodAt (zeros n)) periodPlaces l (λ k. ap (λ r. r .csd) (period-zeros n k)) in
     λ i. record { types = t i; rules = r i; rows = w i; periods = p i }
 
 empty-sound : soundLone M.empty ≡ true
@@ -90,31 +90,31 @@ placed-zeros : (n : ℕ) → allPlaced (zeros n) ≡ true
 unfolding allPlaced
 placed-zeros n =
     rw (
-      placed-free (λ r. r .csd) typeZero (typeAt (zeros n)) 128 (λ k. ap typeZero (type-zeros n k) ∙ free-type),
-      placed-free (λ r. r .csd) ruleZero (ruleAt (zeros n)) 512 (λ k. ap ruleZero (rule-zeros n k) ∙ free-rule),
-      placed-free (λ r. r .csd) rowZero (rowAt (zeros n)) 1024 (λ k. ap rowZero (row-zeros n k) ∙ free-row),
-      placed-free (λ r. r .csd) periodZero (periodAt (zeros n)) 1024 (λ k. ap periodZero (period-zeros n k) ∙ free-period),
+      placed-free (λ r. r .csd) typeZero (typeAt (zeros n)) typePlaces (λ k. ap typeZero (type-zeros n k) ∙ free-type),
+      placed-free (λ r. r .csd) ruleZero (ruleAt (zeros n)) rulePlaces (λ k. ap ruleZero (rule-zeros n k) ∙ free-rule),
+      placed-free (λ r. r .csd) rowZero (rowAt (zeros n)) rowPlaces (λ k. ap rowZero (row-zeros n k) ∙ free-row),
+      placed-free (λ r. r .csd) periodZero (periodAt (zeros n)) periodPlaces (λ k. ap periodZero (period-zeros n k) ∙ free-period),
     )
 
-pub zeros-sound : sound (zeros 51200) ≡ true
+pub zeros-sound : sound (zeros bookSize) ≡ true
 unfolding sound
 zeros-sound =
     rw (
-      eq-eqb (length (zeros 51200)) 51200 (length-zeros 51200),
-      placed-zeros 51200,
-      all-put (λ a. soundLone (loneBook (a + 1) (zeros 51200))) 8 (λ a l. rw (lone-zeros 51200 (a + 1) (omega arith)) empty-sound),
+      eq-eqb (length (zeros bookSize)) bookSize (length-zeros bookSize),
+      placed-zeros bookSize,
+      all-put (λ a. soundLone (loneBook (a + 1) (zeros bookSize))) 8 (λ a l. rw (lone-zeros bookSize (a + 1) (omega arith)) empty-sound),
     )
 
 -- A book that emptying took is sound, and each depository's lone book is the meaning's empty book.
-pub emptied : (b b′ : List ℕ) → Emptied b b′ 0 → b′ ≡ zeros 51200
+pub emptied : (b b′ : List ℕ) → Emptied b b′ 0 → b′ ≡ zeros bookSize
 unfolding emptyAnswer emptyBytes
 emptied b b′ e =
-    cases-eq (length b) 51200
-    (λ l. rw (eq-eqb (length b) 51200 l) at (e .bytes))
-    (λ l. absurd (omega (arith, rw (ne-eqb (length b) 51200 l) at (e .answered))))
+    cases-eq (length b) bookSize
+    (λ l. rw (eq-eqb (length b) bookSize l) at (e .bytes))
+    (λ l. absurd (omega (arith, rw (ne-eqb (length b) bookSize l) at (e .answered))))
 
 pub emptied-sound : (b b′ : List ℕ) → Emptied b b′ 0 → sound b′ ≡ true
 emptied-sound b b′ e = ap sound (emptied b b′ e) ∙ zeros-sound
 
 pub emptied-lone : (b b′ : List ℕ) → Emptied b b′ 0 → (a : ℕ) → 1 ≤ a → loneBook a b′ ≡ M.empty
-emptied-lone b b′ e a l = ap (loneBook a) (emptied b b′ e) ∙ lone-zeros 51200 a l
+emptied-lone b b′ e a l = ap (loneBook a) (emptied b b′ e) ∙ lone-zeros bookSize a l

@@ -6,12 +6,13 @@ use mathlib.Core.Path.{_≡_}
 use lib.Dec.{eqb}
 use lib.ListN.{length}
 use Rattle.tables.specs.Bytes.{zeros}
+use Rattle.places.specs.Layout.{bookSize}
 
 unfoldable pub emptyAnswer : List ℕ → ℕ
-emptyAnswer b = cond (eqb (length b) 51200) 0 1
+emptyAnswer b = cond (eqb (length b) bookSize) 0 1
 
 unfoldable pub emptyBytes : List ℕ → List ℕ
-emptyBytes b = cond (eqb (length b) 51200) (zeros 51200) b
+emptyBytes b = cond (eqb (length b) bookSize) (zeros bookSize) b
 
 pub record Emptied (before after : List ℕ) (answer : ℕ) : Type 0 where
   pub answered : answer ≡ emptyAnswer before

@@ -5,7 +5,7 @@ use mathlib.Core.Bool.{Bool, _&&_}
 use lib.Dec.{eqb}
 use Rattle.tables.specs.Count.{findBelow}
 use Rattle.meaning.specs.Records as M
-use Rattle.places.specs.Layout.{typeAt, ruleAt, rowAt, periodAt}
+use Rattle.places.specs.Layout.{typeAt, ruleAt, rowAt, periodAt, typePlaces, rulePlaces, rowPlaces, periodPlaces}
 use Rattle.records.specs.Said.{typeOf, ruleOf, rowOf, periodOf}
 use Rattle.records.specs.Asks.{typeMeets, ruleMeets, rowMeets, periodMeets}
 use Rattle.records.specs.declared.TypeAsk.{TypeAsk}
@@ -30,13 +30,13 @@ periodHit b a q k = eqb (periodAt b k .csd) a && periodMeets q (periodOf (period
 -- the last such place; the number of places where there is none
 
 unfoldable pub typePlace : List ℕ → ℕ → TypeAsk → ℕ
-typePlace b a q = findBelow 128 (typeHit b a q) 128
+typePlace b a q = findBelow typePlaces (typeHit b a q) typePlaces
 
 unfoldable pub rulePlace : List ℕ → ℕ → RuleAsk → M.Row → ℕ
-rulePlace b a q w = findBelow 512 (ruleHit b a q w) 512
+rulePlace b a q w = findBelow rulePlaces (ruleHit b a q w) rulePlaces
 
 unfoldable pub rowPlace : List ℕ → ℕ → RowAsk → M.Row → ℕ
-rowPlace b a q w = findBelow 1024 (rowHit b a q w) 1024
+rowPlace b a q w = findBelow rowPlaces (rowHit b a q w) rowPlaces
 
 unfoldable pub periodPlace : List ℕ → ℕ → PeriodAsk → ℕ
-periodPlace b a q = findBelow 1024 (periodHit b a q) 1024
+periodPlace b a q = findBelow periodPlaces (periodHit b a q) periodPlaces

@@ -8,7 +8,7 @@ use lib.ListN.{length}
 use Rattle.tables.specs.Count.{allBelow}
 use Rattle.meaning.specs.Fields.{within}
 use Rattle.meaning.specs.Sound.{soundLone}
-use Rattle.places.specs.Layout.{typeAt, ruleAt, rowAt, periodAt}
+use Rattle.places.specs.Layout.{typeAt, ruleAt, rowAt, periodAt, bookSize, typePlaces, rulePlaces, rowPlaces, periodPlaces}
 use Rattle.records.specs.Free.{typeZero, ruleZero, rowZero, periodZero}
 use Rattle.book.specs.Lone.{loneBook}
 
@@ -18,8 +18,8 @@ placed csd free at n = allBelow (λ k. free (at k) || within 1 8 (csd (at k))) n
 
 unfoldable pub allPlaced : List ℕ → Bool
 allPlaced b =
-    (placed (λ r. r .csd) typeZero (typeAt b) 128 && placed (λ r. r .csd) ruleZero (ruleAt b) 512)
-    && (placed (λ r. r .csd) rowZero (rowAt b) 1024 && placed (λ r. r .csd) periodZero (periodAt b) 1024)
+    (placed (λ r. r .csd) typeZero (typeAt b) typePlaces && placed (λ r. r .csd) ruleZero (ruleAt b) rulePlaces)
+    && (placed (λ r. r .csd) rowZero (rowAt b) rowPlaces && placed (λ r. r .csd) periodZero (periodAt b) periodPlaces)
 
 unfoldable pub sound : List ℕ → Bool
-sound b = eqb (length b) 51200 && (allPlaced b && allBelow (λ a. soundLone (loneBook (a + 1) b)) 8)
+sound b = eqb (length b) bookSize && (allPlaced b && allBelow (λ a. soundLone (loneBook (a + 1) b)) 8)

@@ -2,11 +2,13 @@
 ghost use mathlib.Core.Path.{_≡_};
 ghost use Prim.Native.Nat.{_≤_};
 ghost use Rattle.tables.specs.Count.{count};
+ghost use Rattle.places.specs.Layout.{typePlaces, rulePlaces, rowPlaces, periodPlaces};
 ghost use Rattle.records.specs.Said.{rowOf};
 ghost use Rattle.records.specs.Asks.{typeMeets, ruleMeets, rowMeets, periodMeets};
 ghost use Rattle.book.specs.Lone.{typesOf, rulesOf, rowsOf, periodsOf};
 ghost use Rattle.book.specs.Places.{typeHit, ruleHit, rowHit, periodHit, typePlace, rulePlace, rowPlace, periodPlace};
 ghost use Rattle.book.specs.Emptied.{Emptied};
+use basics::one_if;
 use marks::clear;
 use owners::next_period;
 use owners::next_row;
@@ -16,6 +18,7 @@ use places::Period;
 use places::RestrictionType;
 use places::Row;
 use places::Rule;
+use places::SIZE;
 use places::period_at;
 use places::period_csd;
 use places::row_at;
@@ -28,14 +31,10 @@ use records::PeriodAsk;
 use records::RowAsk;
 use records::RuleAsk;
 use records::TypeAsk;
-use records::one_if;
 use records::period_meets;
 use records::row_meets;
 use records::rule_meets;
 use records::type_meets;
-
-// The book's exact size (docs/LAYOUT.md).
-const SIZE: usize = 51200;
 
 // ---- Emptying.
 
@@ -64,7 +63,7 @@ pub fn type_is(b: &[u8], i: u16, a: u8, q: TypeAsk) -> bool
 
 // How many types of depository a are as asked. The places of others are passed.
 pub fn count_types(b: &[u8], a: u8, q: TypeAsk) -> u16
-    ensures { λ r. ⌜ (r ≡ count (typeMeets q) (typesOf a (now (b .entry)))) × (r ≤ 128) ⌝ }
+    ensures { λ r. ⌜ (r ≡ count (typeMeets q) (typesOf a (now (b .entry)))) × (r ≤ typePlaces) ⌝ }
 {
     let mut n: u16 = 0;
     let mut i: u16 = 0;
@@ -105,7 +104,7 @@ pub fn rule_is(b: &[u8], i: u16, a: u8, q: RuleAsk, w: Row) -> bool
 
 // How many rules of depository a are as asked. The places of others are passed.
 pub fn count_rules(b: &[u8], a: u8, q: RuleAsk, w: Row) -> u16
-    ensures { λ r. ⌜ (r ≡ count (ruleMeets q (rowOf w)) (rulesOf a (now (b .entry)))) × (r ≤ 512) ⌝ }
+    ensures { λ r. ⌜ (r ≡ count (ruleMeets q (rowOf w)) (rulesOf a (now (b .entry)))) × (r ≤ rulePlaces) ⌝ }
 {
     let mut n: u16 = 0;
     let mut i: u16 = 0;
@@ -146,7 +145,7 @@ pub fn row_is(b: &[u8], i: u16, a: u8, q: RowAsk, w: Row) -> bool
 
 // How many rows of depository a are as asked. The places of others are passed.
 pub fn count_rows(b: &[u8], a: u8, q: RowAsk, w: Row) -> u16
-    ensures { λ r. ⌜ (r ≡ count (rowMeets q (rowOf w)) (rowsOf a (now (b .entry)))) × (r ≤ 1024) ⌝ }
+    ensures { λ r. ⌜ (r ≡ count (rowMeets q (rowOf w)) (rowsOf a (now (b .entry)))) × (r ≤ rowPlaces) ⌝ }
 {
     let mut n: u16 = 0;
     let mut i: u16 = 0;
@@ -187,7 +186,7 @@ pub fn period_is(b: &[u8], i: u16, a: u8, q: PeriodAsk) -> bool
 
 // How many periods of depository a are as asked. The places of others are passed.
 pub fn count_periods(b: &[u8], a: u8, q: PeriodAsk) -> u16
-    ensures { λ r. ⌜ (r ≡ count (periodMeets q) (periodsOf a (now (b .entry)))) × (r ≤ 1024) ⌝ }
+    ensures { λ r. ⌜ (r ≡ count (periodMeets q) (periodsOf a (now (b .entry)))) × (r ≤ periodPlaces) ⌝ }
 {
     let mut n: u16 = 0;
     let mut i: u16 = 0;

@@ -3,7 +3,6 @@ use Prim.Native.Nat.{ℕ, zero, suc, _+_, _*_, _-_, _≤_, _<_}
 use mathlib.Core.Path.{_≡_, ap, sym, _∙_}
 use mathlib.Core.Bool.{Bool, true, false, _&&_, cond, and-false, false≢true}
 use mathlib.Core.List.{List}
-use native.Mathlib.Nat.{mul-le-mul}
 use native.Mathlib.Omega.{arith}
 use lib.Dec.{eqb, ltb}
 use lib.ListN.{length, getD}
@@ -12,6 +11,7 @@ use Rattle.tables.specs.Bytes.{Width, total, byteAt, numbers, zeros}
 use Rattle.tables.proofs.Counts.{cases, cases-eq, all-none, all-more, all-at}
 use Rattle.tables.proofs.Bytes.{numbers-same}
 use Rattle.tables.proofs.Zeros.{byte-zeros}
+use Rattle.chains.specs.Sizes.{blockPlaces}
 use Rattle.chains.specs.Chains.{right, Going, Block}
 use Rattle.chains.specs.Blocks.{zeroFrom, blockFree}
 use Rattle.chains.proofs.Chaining.{chained-free, counted-free}
@@ -45,16 +45,13 @@ zero-more b from j x x′ e f =
 
 -- ---- what `block_free` leaves to show
 
-pub block-past : (b : List ℕ) (i start width : ℕ) → length b < start + i * width + 16 * width → false ≡ blockFree b i start width
+pub block-past : (b : List ℕ) (i start width at : ℕ) → length b < at + blockPlaces * width → at ≡ start + i * width → false ≡ blockFree b i start width
 unfolding blockFree
-block-past b i start width l = rw (lt-leb (start + i * width + 16 * width) (length b) l)
+block-past b i start width at l e = rw (← e, lt-leb (at + blockPlaces * width) (length b) l)
 
-pub block-in : (b : List ℕ) (i start width : ℕ) (r : Bool) → r ≡ zeroFrom b (start + i * width) (16 * width) → start + i * width + 16 * width ≤ length b → r ≡ blockFree b i start width
+pub block-in : (b : List ℕ) (i start width at : ℕ) (r : Bool) → r ≡ zeroFrom b at (blockPlaces * width) → at + blockPlaces * width ≤ length b → at ≡ start + i * width → r ≡ blockFree b i start width
 unfolding blockFree
-block-in b i start width r e l = rw (le-leb (start + i * width + 16 * width) (length b) l) e
-
-pub area : (i w : ℕ) → i < 65536 → w < 256 → i * w ≤ 16711425
-area i w l h = let a : i ≤ 65535 = omega arith in let b : w ≤ 255 = omega arith in mul-le-mul a b
+block-in b i start width at r h l e = rw (← e, le-leb (at + blockPlaces * width) (length b) l) h
 
 -- ---- the places
 
@@ -88,5 +85,5 @@ module _ (csd bucket : ℕ → ℕ) (size places : ℕ) (free rest : ℕ → Boo
         chained = chained-free csd bucket size places head next (i + m) (r .chained) (nobody (i + m) z);
       })
 
-  pub block-over : (i : ℕ) → Going csd bucket size places (right csd free rest p q) i counts head next → i + 16 ≤ places → ((k : ℕ) → i ≤ k → k < i + 16 → free k ≡ true) → Block csd bucket size places (right csd free rest p q) i true counts head next
-  block-over i g l f = record { going = λ y. going-over i 16 g l f; fails = λ y. absurd (false≢true (sym y)) }
+  pub block-over : (i : ℕ) → Going csd bucket size places (right csd free rest p q) i counts head next → i + blockPlaces ≤ places → ((k : ℕ) → i ≤ k → k < i + blockPlaces → free k ≡ true) → Block csd bucket size places (right csd free rest p q) i true counts head next
+  block-over i g l f = record { going = λ y. going-over i blockPlaces g l f; fails = λ y. absurd (false≢true (sym y)) }

@@ -11,6 +11,7 @@ use Rattle.tables.specs.Count.{allBelow}
 use Rattle.tables.specs.Below.{anyBelow}
 use Rattle.tables.specs.Keyed.{Blank}
 use Rattle.tables.proofs.Counts.{cases, both, all-none, all-more, all-at}
+use Rattle.chains.specs.Sizes.{owners, blockPlaces}
 use Rattle.meaning.specs.Fields.{within}
 use Rattle.chains.specs.Chains.{chainHas, inBucket, Unchained, Entered, Ready, right, rightBy, Passed, AllPassed, Going, Block}
 use Rattle.chains.proofs.Chaining.{chain-any, chained-none, chained-free, chained-more, counted-none, counted-free, counted-more}
@@ -70,7 +71,7 @@ module _ (csd bucket : ℕ → ℕ) (size places : ℕ) (free rest : ℕ → Boo
 -- ---- the loop
 
 module _ (csd bucket : ℕ → ℕ) (size places : ℕ) (good : ℕ → Bool) where
-  pub going-none : (counts head next : List ℕ) → Unchained size places head next → Blank 9 counts → Going csd bucket size places good 0 counts head next
+  pub going-none : (counts head next : List ℕ) → Unchained size places head next → Blank owners counts → Going csd bucket size places good 0 counts head next
   going-none counts head next u z = record {
     few = omega arith;
     all = all-none good;
@@ -93,7 +94,7 @@ module _ (csd bucket : ℕ → ℕ) (size places : ℕ) (good : ℕ → Bool) wh
 
   -- one place of sixteen fails, or all are passed
 
-  pub block-fails : (from i : ℕ) (r x : Bool) (counts′ head′ next′ : List ℕ) → Passed csd bucket size places good i r counts′ head′ next′ → x ≡ not r → x ≡ true → i < from + 16 → from + 16 ≤ places → Block csd bucket size places good from false counts′ head′ next′
+  pub block-fails : (from i : ℕ) (r x : Bool) (counts′ head′ next′ : List ℕ) → Passed csd bucket size places good i r counts′ head′ next′ → x ≡ not r → x ≡ true → i < from + blockPlaces → from + blockPlaces ≤ places → Block csd bucket size places good from false counts′ head′ next′
   block-fails from i r x counts′ head′ next′ m e f l h =
       let y : r ≡ false = not-true r (sym e ∙ f) in
       record {
@@ -101,12 +102,12 @@ module _ (csd bucket : ℕ → ℕ) (size places : ℕ) (good : ℕ → Bool) wh
         fails = λ t. cases (allBelow good places) (λ u. absurd (false≢true (sym y ∙ m .answered ∙ all-at good places u i (omega arith)))) (λ u. u);
       }
 
-  pub block-end : (from i : ℕ) (counts head next : List ℕ) → Going csd bucket size places good i counts head next → i ≡ from + 16 → Block csd bucket size places good from true counts head next
+  pub block-end : (from i : ℕ) (counts head next : List ℕ) → Going csd bucket size places good i counts head next → i ≡ from + blockPlaces → Block csd bucket size places good from true counts head next
   block-end from i counts head next g e = record { going = λ y. rw e at g; fails = λ y. absurd (false≢true (sym y)) }
 
   -- the loop over blocks
 
-  pub blocks-on : (i : ℕ) (r x : Bool) (counts head next : List ℕ) → Block csd bucket size places good i r counts head next → x ≡ not r → x ≡ false → Going csd bucket size places good (i + 16) counts head next
+  pub blocks-on : (i : ℕ) (r x : Bool) (counts head next : List ℕ) → Block csd bucket size places good i r counts head next → x ≡ not r → x ≡ false → Going csd bucket size places good (i + blockPlaces) counts head next
   blocks-on i r x counts head next m e f = m .going (not-false r (sym e ∙ f))
 
   pub blocks-fail : (i : ℕ) (r x : Bool) (counts head next : List ℕ) → Block csd bucket size places good i r counts head next → x ≡ not r → x ≡ true → AllPassed csd bucket size places good false head next

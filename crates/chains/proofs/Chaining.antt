@@ -14,15 +14,12 @@ use Rattle.tables.specs.Count.{countBelow}
 use Rattle.tables.specs.Below.{anyBelow}
 use Rattle.tables.specs.Keyed.{Blank}
 use Rattle.tables.proofs.Counts.{cases, cases-eq, both, count-more, count-most}
+use Rattle.chains.specs.Sizes.{owners}
 use Rattle.chains.specs.Chains.{chainHas, lastBelow, inBucket, Counted, Chained, Unchained, Entered, Walking}
 
 last-more : (p : ℕ → Bool) (n : ℕ) → lastBelow p (n + 1) ≡ cond (p n) (n + 1) (lastBelow p n)
 unfolding lastBelow
 last-more p n = rw add-one
-
-last-none : (p : ℕ → Bool) → lastBelow p 0 ≡ 0
-unfolding lastBelow
-last-none p = refl
 
 -- ---- walking a chain
 
@@ -131,7 +128,7 @@ module _ (csd bucket : ℕ → ℕ) (size places : ℕ) where
 
 -- ---- counts
 
-pub counted-none : (csd : ℕ → ℕ) (counts : List ℕ) → Blank 9 counts → Counted csd counts 0
+pub counted-none : (csd : ℕ → ℕ) (counts : List ℕ) → Blank owners counts → Counted csd counts 0
 unfolding countBelow
 counted-none csd counts u = record { long = u .long; each = λ a l h. u .each a (omega arith) }
 

@@ -5,6 +5,7 @@ use mathlib.Core.List.{List}
 use lib.Dec.{eqb, leb}
 use lib.ListN.{length, getD}
 use Rattle.tables.specs.Count.{allBelow}
+use Rattle.chains.specs.Sizes.{blockPlaces}
 
 -- the n bytes from an index on are all 0
 unfoldable pub zeroFrom : List ℕ → ℕ → ℕ → Bool
@@ -14,4 +15,4 @@ zeroFrom b from n = allBelow (λ j. eqb (getD b (from + j) 0) 0) n
 unfoldable pub blockFree : List ℕ → ℕ → ℕ → ℕ → Bool
 unfolding zeroFrom
 blockFree b i start width =
-    leb (start + i * width + 16 * width) (length b) && zeroFrom b (start + i * width) (16 * width)
+    leb (start + i * width + blockPlaces * width) (length b) && zeroFrom b (start + i * width) (blockPlaces * width)

@@ -9,6 +9,7 @@ use lib.ListN.{length, getD, set}
 use Rattle.tables.specs.Count.{countBelow, allBelow}
 use Rattle.tables.specs.Below.{anyBelow}
 use Rattle.tables.specs.Keyed.{Blank}
+use Rattle.chains.specs.Sizes.{owners, blockPlaces}
 use Rattle.meaning.specs.Fields.{within}
 
 -- whether p holds at one of the first n places of the chain that starts at k
@@ -30,7 +31,7 @@ module _ (csd bucket : ℕ → ℕ) where
 
 -- how many of the places below i each depository has
 pub record Counted (csd : ℕ → ℕ) (counts : List ℕ) (i : ℕ) : Type 0 where
-  pub long : length counts ≡ 9
+  pub long : length counts ≡ owners
   pub each : (a : ℕ) → 1 ≤ a → a ≤ 8 → getD counts a 0 ≡ countBelow (λ k. eqb (csd k) a) i
 
 -- the used places below i in chains, the last first: head has the start of each bucket's chain, next what follows a place
@@ -96,5 +97,5 @@ pub record Going (csd bucket : ℕ → ℕ) (size places : ℕ) (good : ℕ → 
 
 -- what sixteen places from i on leave
 pub record Block (csd bucket : ℕ → ℕ) (size places : ℕ) (good : ℕ → Bool) (i : ℕ) (answer : Bool) (counts head next : List ℕ) : Type 0 where
-  pub going : answer ≡ true → Going csd bucket size places good (i + 16) counts head next
+  pub going : answer ≡ true → Going csd bucket size places good (i + blockPlaces) counts head next
   pub fails : answer ≡ false → allBelow good places ≡ false

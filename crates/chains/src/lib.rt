@@ -5,11 +5,33 @@ ghost use Prim.Native.Nat.{_+_, _≤_};
 ghost use lib.Dec.{ltb};
 ghost use lib.ListN.{length, getD, set};
 ghost use Rattle.tables.specs.Keyed.{Blank};
+ghost use Rattle.places.specs.Layout.{typePlaces, rulePlaces, rowPlaces, periodPlaces};
+ghost use Rattle.chains.specs.Sizes.{owners, typeHeads, ruleHeads, rowHeads, periodHeads};
 ghost use Rattle.chains.specs.Chains.{rightBy, Entered};
 ghost use Rattle.chains.specs.Blocks.{zeroFrom, blockFree};
-use records::and;
-use records::no;
-use records::small;
+use basics::and;
+use basics::byte_within;
+use basics::no;
+use places::Period;
+use places::RestrictionType;
+use places::Row;
+use places::Rule;
+use places::address;
+
+// Whose a place can be: the depositories 1 to 8, and 0 of a free place.
+const OWNERS: usize = 9;
+
+// How many buckets an owner has in each table.
+pub const TYPE_BUCKETS: usize = 64;
+
+pub const RULE_BUCKETS: usize = 128;
+
+pub const ROW_BUCKETS: usize = 256;
+
+pub const PERIOD_BUCKETS: usize = 256;
+
+// How many places are seen at once to be free.
+pub const BLOCK: u16 = 16;
 
 // ---- Entries.
 
@@ -49,50 +71,61 @@ pub fn enter(counts: &mut [u16], head: &mut [u16], next: &mut [u16], c: u8, k: u
 // ---- Tables without an entry, each in a function of its own, so that no proof shows its cells.
 
 // No depository has a place.
-pub fn no_counts() -> [u16; 9]
-    ensures { λ r. ⌜ Blank 9 r ⌝ }
+pub fn no_counts() -> [u16; OWNERS]
+    ensures { λ r. ⌜ Blank owners r ⌝ }
 {
-    [0; 9]
+    [0; OWNERS]
 }
 
-pub fn no_types() -> [u16; 128]
-    ensures { λ r. ⌜ Blank 128 r ⌝ }
+pub fn no_types() -> [u16; RestrictionType::PLACES as usize]
+    ensures { λ r. ⌜ Blank typePlaces r ⌝ }
 {
-    [0; 128]
+    [0; RestrictionType::PLACES as usize]
 }
 
-pub fn type_heads() -> [u16; 576]
-    ensures { λ r. ⌜ Blank 576 r ⌝ }
+pub fn type_heads() -> [u16; OWNERS * TYPE_BUCKETS]
+    ensures { λ r. ⌜ Blank typeHeads r ⌝ }
 {
-    [0; 576]
+    [0; OWNERS * TYPE_BUCKETS]
 }
 
-pub fn no_rules() -> [u16; 512]
-    ensures { λ r. ⌜ Blank 512 r ⌝ }
+pub fn no_rules() -> [u16; Rule::PLACES as usize]
+    ensures { λ r. ⌜ Blank rulePlaces r ⌝ }
 {
-    [0; 512]
+    [0; Rule::PLACES as usize]
 }
 
-pub fn rule_heads() -> [u16; 1152]
-    ensures { λ r. ⌜ Blank 1152 r ⌝ }
+pub fn rule_heads() -> [u16; OWNERS * RULE_BUCKETS]
+    ensures { λ r. ⌜ Blank ruleHeads r ⌝ }
 {
-    [0; 1152]
+    [0; OWNERS * RULE_BUCKETS]
 }
 
-// Rows or periods.
-pub fn no_places() -> [u16; 1024]
-    ensures { λ r. ⌜ Blank 1024 r ⌝ }
+pub fn no_rows() -> [u16; Row::PLACES as usize]
+    ensures { λ r. ⌜ Blank rowPlaces r ⌝ }
 {
-    [0; 1024]
+    [0; Row::PLACES as usize]
 }
 
-pub fn heads() -> [u16; 2304]
-    ensures { λ r. ⌜ Blank 2304 r ⌝ }
+pub fn row_heads() -> [u16; OWNERS * ROW_BUCKETS]
+    ensures { λ r. ⌜ Blank rowHeads r ⌝ }
 {
-    [0; 2304]
+    [0; OWNERS * ROW_BUCKETS]
 }
 
-// ---- Free places, sixteen at once.
+pub fn no_periods() -> [u16; Period::PLACES as usize]
+    ensures { λ r. ⌜ Blank periodPlaces r ⌝ }
+{
+    [0; Period::PLACES as usize]
+}
+
+pub fn period_heads() -> [u16; OWNERS * PERIOD_BUCKETS]
+    ensures { λ r. ⌜ Blank periodHeads r ⌝ }
+{
+    [0; OWNERS * PERIOD_BUCKETS]
+}
+
+// ---- Free places, a block of them at once.
 
 fn greater(x: u8, y: u8) -> u8
     ensures { λ r. ⌜ r ≡ cond (ltb x y) y x ⌝ }
@@ -112,12 +145,12 @@ fn all_zero(b: &[u8], from: usize, n: usize) -> bool
     x == 0
 }
 
-// Whether sixteen places from place i on are free. The table starts at an address, and its places have a width.
+// Whether a block of places from place i on is free. The table starts at an address, and its places have a width.
 pub fn block_free(b: &[u8], i: u16, start: u16, width: u8) -> bool
     ensures { λ r. ⌜ r ≡ blockFree (now (b .entry)) i start width ⌝ }
 {
-    let from = start as usize + i as usize * width as usize;
-    let n = 16 * (width as usize);
+    let from = address(start, width, i) as usize;
+    let n = BLOCK as usize * width as usize;
     if b.len() < from + n {
         return false;
     }
@@ -131,5 +164,5 @@ pub fn right(csd: u8, fit: bool, held: bool, counts: &[u16], quota: u16) -> bool
     ensures { λ r. ⌜ r ≡ rightBy fit held quota csd (now (counts .entry)) ⌝ }
 {
     let few = look(counts, csd as usize) < quota;
-    and(small(1, csd, 8), and(fit, and(no(held), few)))
+    and(byte_within(1, 8, csd), and(fit, and(no(held), few)))
 }

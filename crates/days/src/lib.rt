@@ -1,27 +1,10 @@
 // Whether a number is a day (document 01, 'Lines'): eight digits, year, month, day, 2000 to 2099, real calendar dates.
+use basics::and;
+use basics::pick;
+use basics::within;
 ghost use mathlib.Core.Path.{_≡_};
-ghost use mathlib.Core.Bool.{_&&_, cond};
 ghost use lib.ListN.{getD};
-ghost use Rattle.meaning.specs.Fields.{within};
 ghost use Rattle.meaning.specs.Forms.{months, monthLength, isDay};
-
-fn and(a: bool, b: bool) -> bool
-    ensures { λ r. ⌜ r ≡ (a && b) ⌝ }
-{
-    if a { b } else { false }
-}
-
-fn pick(test: bool, a: u32, b: u32) -> u32
-    ensures { λ r. ⌜ r ≡ cond test a b ⌝ }
-{
-    if test { a } else { b }
-}
-
-fn within(low: u32, high: u32, n: u32) -> bool
-    ensures { λ r. ⌜ r ≡ within low high n ⌝ }
-{
-    and(low <= n, n <= high)
-}
 
 // The lengths of the months of a common year, January's at 1.
 const MONTHS: [u32; 13] = [0, 31, 28, 31, 30, 31, 30, 31, 31, 30, 31, 30, 31];

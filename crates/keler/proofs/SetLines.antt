@@ -6,11 +6,11 @@ use native.Mathlib.Omega.{arith}
 use lib.ListN.{length, getD, length-map, List·getD-append, List·getD-eq-default}
 use lib.Seq.{getD-append-add}
 use Rattle.meaning.specs.Text.{numeral}
-use Rattle.meaning.specs.Forms.{signForm, tenValues, formsOf, letterT, letterR, letterM}
+use Rattle.meaning.specs.Forms.{signForm, tenValues, shapeT, shapeR, shapeM}
 use Rattle.meaning.specs.Printing.{listed}
 use Rattle.meaning.specs.Writing.{write, writeAll, written}
 use Rattle.meaning.specs.Keler.{kelerTypes, kelerRules, kelerRows, kelerLines}
-use Rattle.line.proofs.TableRule.{entry}
+use Rattle.tables.proofs.Entries.{map-entry}
 use Rattle.keler.specs.Tables.{rowNumber}
 use Rattle.keler.specs.Written.{nothing, addedAll, writtenAs}
 use Rattle.keler.specs.Lines.{signText, wordsText, codesText, typeLine, ruleLine, rowLine}
@@ -30,13 +30,13 @@ module _ (csd day a b c : ℕ) where
   unfolding head listed
   head-text letter tail = simp (append-assoc, append-nil)
 
-  type-text : (first last : ℕ) {e : List ℕ} → e ≡ a ∷ b ∷ c ∷ [] → head 84 ++ listed (first ∷ last ∷ []) ≡ written letterT (csd ∷ day ∷ (e ++ (first ∷ last ∷ [])))
-  unfolding listed written writeAll formsOf write
+  type-text : (first last : ℕ) {e : List ℕ} → e ≡ a ∷ b ∷ c ∷ [] → head 84 ++ listed (first ∷ last ∷ []) ≡ written shapeT (csd ∷ day ∷ (e ++ (first ∷ last ∷ [])))
+  unfolding listed written writeAll shapeT write
   type-text first last e = rw e (head-text 84 (listed (first ∷ last ∷ [])))
 
   rule-text : (first last : ℕ) {s k : ℕ} {e : List ℕ} → e ≡ a ∷ b ∷ c ∷ s ∷ k ∷ [] → signText s ≡ 44 ∷ write signForm s
-      → ((head 82 ++ signText s) ++ (44 ∷ numeral k)) ++ listed (first ∷ last ∷ []) ≡ written letterR (csd ∷ day ∷ (e ++ (first ∷ last ∷ [])))
-  unfolding listed written writeAll formsOf write
+      → ((head 82 ++ signText s) ++ (44 ∷ numeral k)) ++ listed (first ∷ last ∷ []) ≡ written shapeR (csd ∷ day ∷ (e ++ (first ∷ last ∷ [])))
+  unfolding listed written writeAll shapeR write
   rule-text first last {s} {k} e g =
       let days = listed (first ∷ last ∷ []) in
       append-assoc (head 82 ++ signText s) (44 ∷ numeral k) days
@@ -44,8 +44,8 @@ module _ (csd day a b c : ℕ) where
       ∙ rw (e, g) (head-text 82 ((44 ∷ write signForm s) ++ ((44 ∷ numeral k) ++ days)))
 
   row-text : {e values : List ℕ} (words codes : List ℕ) → e ≡ a ∷ b ∷ c ∷ values → words ++ codes ≡ writeAll tenValues values
-      → (head 77 ++ words) ++ codes ≡ written letterM (csd ∷ day ∷ e)
-  unfolding written writeAll formsOf write
+      → (head 77 ++ words) ++ codes ≡ written shapeM (csd ∷ day ∷ e)
+  unfolding written writeAll shapeM write
   row-text {values = values} words codes e v =
       append-assoc (head 77) words codes ∙ rw (e, v) (head-text 77 (writeAll tenValues values))
 
@@ -96,20 +96,20 @@ rows-many = refl
 -- an entry of two tables one after the other
 module _ {A : Type 0} (f : A → List ℕ) (l : List A) (m : List (List ℕ)) where
   in-left : (n : ℕ) (x : A) → n < length l → getD (map f l ++ m) n [] ≡ f (getD l n x)
-  in-left n x h = List·getD-append (map f l) m [] n (rw (length-map l f) h) ∙ entry f l n x [] h
+  in-left n x h = List·getD-append (map f l) m [] n (rw (length-map l f) h) ∙ map-entry f l n x [] h
 
   in-right : (n : ℕ) → getD (map f l ++ m) (length l + n) [] ≡ getD m n []
   in-right n = rw (← length-map l f) (getD-append-add (map f l) m n [])
 
 module _ (csd day first last : ℕ) where
   type-of : List ℕ → List ℕ
-  type-of e = written letterT (csd ∷ day ∷ (e ++ (first ∷ last ∷ [])))
+  type-of e = written shapeT (csd ∷ day ∷ (e ++ (first ∷ last ∷ [])))
 
   rule-of : List ℕ → List ℕ
-  rule-of e = written letterR (csd ∷ day ∷ (e ++ (first ∷ last ∷ [])))
+  rule-of e = written shapeR (csd ∷ day ∷ (e ++ (first ∷ last ∷ [])))
 
   row-of : List ℕ → List ℕ
-  row-of e = written letterM (csd ∷ day ∷ e)
+  row-of e = written shapeM (csd ∷ day ∷ e)
 
   in-three : kelerLines csd day first last ≡ map type-of kelerTypes ++ (map rule-of kelerRules ++ map row-of kelerRows)
   unfolding kelerLines type-of rule-of row-of
@@ -134,7 +134,7 @@ module _ (csd day first last : ℕ) where
 
   pub row-line : (n : ℕ) → 23 ≤ n → n < 55 → getD (kelerLines csd day first last) n [] ≡ rowLine (n - 23) csd day
   unfolding rowLine row-of
-  row-line n g h = after-rules n (n - 23) (omega arith) ∙ entry row-of kelerRows (n - 23) [] [] (omega (arith, rows-many))
+  row-line n g h = after-rules n (n - 23) (omega arith) ∙ map-entry row-of kelerRows (n - 23) [] [] (omega (arith, rows-many))
 
   no-line : (n : ℕ) → 55 ≤ n → getD (kelerLines csd day first last) n [] ≡ []
   no-line n h =

@@ -10,11 +10,11 @@ use borrow.Author.Tests.{leb-true, ltb-true, ltb-false}
 use Rattle.tables.proofs.Counts.{cases, both}
 use Rattle.meaning.specs.Text.{numeral}
 use Rattle.meaning.specs.Fields.{within}
-use Rattle.meaning.specs.Forms.{Form, csdForm, day as dayForm, isDay, formsOf, letterT, letterR, letterM}
+use Rattle.meaning.specs.Forms.{Form, csdForm, day as dayForm, isDay, shapeT, shapeR, shapeM}
 use Rattle.meaning.specs.Writing.{write, writeAll, written}
 use Rattle.meaning.specs.Keler.{kelerTypes, kelerRules, kelerRows, kelerLines}
 use Rattle.meaning.proofs.Numerals.{numeral-one, numeral-more}
-use Rattle.line.proofs.TableRule.{entry}
+use Rattle.tables.proofs.Entries.{map-entry}
 use Rattle.keler.specs.Lines.{typeLine, ruleLine, rowLine}
 use Rattle.keler.proofs.Tables.{types-wide, rules-wide}
 use Rattle.keler.proofs.SetLines.{type-line, rule-line, row-line}
@@ -92,14 +92,14 @@ some-day = 20000101
 sample-fits : (n : ℕ) → n < 55 → within 7 80 (length (getD (kelerLines 1 some-day some-day some-day) n [])) ≡ true
 unfolding kelerLines
 sample-fits n h =
-    sym (entry (λ l. within 7 80 (length l)) (kelerLines 1 some-day some-day some-day) n [] false h) ∙ getD-replicate 55 n true false h
+    sym (map-entry (λ l. within 7 80 (length l)) (kelerLines 1 some-day some-day some-day) n [] false h) ∙ getD-replicate 55 n true false h
 
 module _ (csd day : ℕ) (c : length (numeral csd) ≡ 1) (d : length (numeral day) ≡ 8) where
   row-size : (n : ℕ) → length (rowLine n csd day) ≡ length (rowLine n 1 some-day)
-  unfolding rowLine written formsOf write Alike
+  unfolding rowLine written shapeM write Alike
   row-size n =
       let e = getD kelerRows n [] in
-      ap suc (alike-length (formsOf letterM) (csd ∷ day ∷ e) (1 ∷ some-day ∷ e) (c, (d, alike-same (drop 2 (formsOf letterM)) e)))
+      ap suc (alike-length (shapeM .forms) (csd ∷ day ∷ e) (1 ∷ some-day ∷ e) (c, (d, alike-same (drop 2 (shapeM .forms)) e)))
 
   module _ (first last : ℕ) (f : length (numeral first) ≡ 8) (l : length (numeral last) ≡ 8) where
     days-size : (φs : List Form) (e : List ℕ) → Alike (drop (length e) φs) (first ∷ last ∷ []) (some-day ∷ some-day ∷ [])
@@ -111,12 +111,12 @@ module _ (csd day : ℕ) (c : length (numeral csd) ≡ 1) (d : length (numeral d
         (c, (d, alike-after φs e (first ∷ last ∷ []) (some-day ∷ some-day ∷ []) h))
 
     type-size : (n : ℕ) → n < 10 → length (typeLine n csd day first last) ≡ length (typeLine n 1 some-day some-day some-day)
-    unfolding typeLine written formsOf write Alike
-    type-size n h = ap suc (days-size (drop 2 (formsOf letterT)) (getD kelerTypes n []) (rw (types-wide n h) (f, (l, tt))))
+    unfolding typeLine written shapeT write Alike
+    type-size n h = ap suc (days-size (drop 2 (shapeT .forms)) (getD kelerTypes n []) (rw (types-wide n h) (f, (l, tt))))
 
     rule-size : (n : ℕ) → n < 13 → length (ruleLine n csd day first last) ≡ length (ruleLine n 1 some-day some-day some-day)
-    unfolding ruleLine written formsOf write Alike
-    rule-size n h = ap suc (days-size (drop 2 (formsOf letterR)) (getD kelerRules n []) (rw (rules-wide n h) (f, (l, tt))))
+    unfolding ruleLine written shapeR write Alike
+    rule-size n h = ap suc (days-size (drop 2 (shapeR .forms)) (getD kelerRules n []) (rw (rules-wide n h) (f, (l, tt))))
 
     line-size : (n : ℕ) → n < 55
         → length (getD (kelerLines csd day first last) n []) ≡ length (getD (kelerLines 1 some-day some-day some-day) n [])

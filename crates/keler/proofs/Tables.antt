@@ -8,7 +8,7 @@ use Rattle.meaning.specs.Text.{numeral}
 use Rattle.meaning.specs.Forms.{signForm, tenValues}
 use Rattle.meaning.specs.Writing.{write, writeAll}
 use Rattle.meaning.specs.Keler.{kelerTypes, kelerRules, kelerRows}
-use Rattle.line.proofs.TableRule.{entry}
+use Rattle.tables.proofs.Entries.{map-entry}
 use Rattle.keler.specs.Tables.{columns, rowNumber}
 use Rattle.keler.specs.Lines.{signText, movementText, transactionText, wordsText, codeText, codesText}
 
@@ -32,7 +32,7 @@ whole l n h =
 
 -- of a table each of whose entries has k numbers
 width : (k : ℕ) (t : List (List ℕ)) → map length t ≡ replicate (length t) k → (n : ℕ) → n < length t → length (getD t n []) ≡ k
-width k t e n h = sym (entry length t n [] 0 h) ∙ ap (λ l. getD l n 0) e ∙ getD-replicate (length t) n k 0 h
+width k t e n h = sym (map-entry length t n [] 0 h) ∙ ap (λ l. getD l n 0) e ∙ getD-replicate (length t) n k 0 h
 
 -- ---- the rows' columns
 
@@ -44,7 +44,7 @@ cut e = map (λ j. getD e j 0) columns
 pub row-column : (n k : ℕ) → n < 32 → k < 8 → getD (getD (map cut kelerRows) n []) k 0 ≡ rowNumber n k
 unfolding kelerRows rowNumber
 row-column n k h j =
-    ap (λ e. getD e k 0) (entry cut kelerRows n [] [] h) ∙ entry (λ i. getD (getD kelerRows n []) i 0) columns k 0 0 j
+    ap (λ e. getD e k 0) (map-entry cut kelerRows n [] [] h) ∙ map-entry (λ i. getD (getD kelerRows n []) i 0) columns k 0 0 j
 
 -- ---- entries
 
@@ -74,7 +74,7 @@ pub rule-sign : (n : ℕ) {d : ℕ} → d ≡ getD (getD kelerRules n []) 3 0 �
 unfolding kelerRules signText write
 rule-sign n e h =
     rw e
-    (sym (entry (λ e. signText (getD e 3 0)) kelerRules n [] [] h) ∙ entry (λ e. 44 ∷ write signForm (getD e 3 0)) kelerRules n [] [] h)
+    (sym (map-entry (λ e. signText (getD e 3 0)) kelerRules n [] [] h) ∙ map-entry (λ e. 44 ∷ write signForm (getD e 3 0)) kelerRules n [] [] h)
 
 pub row-entry : (n : ℕ) {a b c : ℕ} → a ≡ rowNumber n 0 → b ≡ rowNumber n 1 → c ≡ rowNumber n 2 → n < 32
     → getD kelerRows n [] ≡ a ∷ b ∷ c ∷ drop 3 (getD kelerRows n [])
@@ -86,5 +86,5 @@ pub row-values : (n : ℕ) → n < 32
     → wordsText (rowNumber n 3) (rowNumber n 4) ++ codesText (rowNumber n 5) (rowNumber n 6) (rowNumber n 7) ≡ writeAll tenValues (drop 3 (getD kelerRows n []))
 unfolding kelerRows rowNumber wordsText movementText transactionText codesText codeText writeAll numeral
 row-values n h =
-    sym (entry (λ e. wordsText (getD e 4 0) (getD e 6 0) ++ codesText (getD e 9 0) (getD e 10 0) (getD e 11 0)) kelerRows n [] [] h)
-    ∙ entry (λ e. writeAll tenValues (drop 3 e)) kelerRows n [] [] h
+    sym (map-entry (λ e. wordsText (getD e 4 0) (getD e 6 0) ++ codesText (getD e 9 0) (getD e 10 0) (getD e 11 0)) kelerRows n [] [] h)
+    ∙ map-entry (λ e. writeAll tenValues (drop 3 e)) kelerRows n [] [] h

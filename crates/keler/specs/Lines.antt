@@ -5,7 +5,7 @@ use mathlib.Core.List.{List, [], _∷_, _++_}
 use lib.Dec.{eqb}
 use lib.ListN.{getD}
 use Rattle.meaning.specs.Text.{bytes, numeral}
-use Rattle.meaning.specs.Forms.{letterT, letterR, letterM}
+use Rattle.meaning.specs.Forms.{shapeT, shapeR, shapeM}
 use Rattle.meaning.specs.Records.{positive}
 use Rattle.meaning.specs.Writing.{written}
 use Rattle.meaning.specs.Keler.{deli, corp, kelerTypes, kelerRules, kelerRows}
@@ -35,10 +35,10 @@ codesText party account security = codeText party ++ (codeText account ++ (codeT
 -- ---- the lines
 
 unfoldable pub typeLine : ℕ → ℕ → ℕ → ℕ → ℕ → List ℕ
-typeLine n csd day first last = written letterT (csd ∷ day ∷ (getD kelerTypes n [] ++ (first ∷ last ∷ [])))
+typeLine n csd day first last = written shapeT (csd ∷ day ∷ (getD kelerTypes n [] ++ (first ∷ last ∷ [])))
 
 unfoldable pub ruleLine : ℕ → ℕ → ℕ → ℕ → ℕ → List ℕ
-ruleLine n csd day first last = written letterR (csd ∷ day ∷ (getD kelerRules n [] ++ (first ∷ last ∷ [])))
+ruleLine n csd day first last = written shapeR (csd ∷ day ∷ (getD kelerRules n [] ++ (first ∷ last ∷ [])))
 
 unfoldable pub rowLine : ℕ → ℕ → ℕ → List ℕ
-rowLine n csd day = written letterM (csd ∷ day ∷ getD kelerRows n [])
+rowLine n csd day = written shapeM (csd ∷ day ∷ getD kelerRows n [])

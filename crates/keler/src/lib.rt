@@ -2,33 +2,17 @@
 mod set;
 mod writing;
 
+use basics::and;
+use basics::pick_size;
+use basics::within;
 use days::is_day;
 use set::set_line;
 use writing::Written;
 ghost use mathlib.Core.Path.{_≡_};
-ghost use mathlib.Core.Bool.{_&&_, cond};
-ghost use Rattle.meaning.specs.Fields.{within};
+ghost use mathlib.Core.Bool.{_&&_};
 ghost use Rattle.meaning.specs.Forms.{isDay};
 ghost use Rattle.meaning.specs.Keler.{kelerRefusal};
 ghost use Rattle.keler.specs.Step.{admitted, Ready, Puts, Steps};
-
-fn and(a: bool, b: bool) -> bool
-    ensures { λ r. ⌜ r ≡ (a && b) ⌝ }
-{
-    if a { b } else { false }
-}
-
-fn pick(test: bool, a: usize, b: usize) -> usize
-    ensures { λ r. ⌜ r ≡ cond test a b ⌝ }
-{
-    if test { a } else { b }
-}
-
-fn within(low: u32, high: u32, n: u32) -> bool
-    ensures { λ r. ⌜ r ≡ within low high n ⌝ }
-{
-    and(low <= n, n <= high)
-}
 
 // Three right dates, beside another test.
 fn are_days(test: bool, day: u32, first: u32, last: u32) -> bool
@@ -51,7 +35,7 @@ fn refusal(number: u32, csd: u32, day: u32, first: u32, last: u32, space: usize)
     ensures { λ r. ⌜ r ≡ kelerRefusal number csd day first last space ⌝ }
 {
     let right = is_admitted(number, csd, day, first, last, space);
-    pick(!right, 5, pick(first <= day, 6, 0))
+    pick_size(!right, 5, pick_size(first <= day, 6, 0))
 }
 
 // Puts a line in front of the bytes; those after it stay. Returns its length.

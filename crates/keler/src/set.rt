@@ -4,6 +4,7 @@ use crate::writing::add;
 use crate::writing::add_field;
 use crate::writing::add_word;
 use crate::writing::blank;
+use basics::wide;
 ghost use Prim.Native.Nat.{_<_};
 ghost use mathlib.Core.Path.{_≡_};
 ghost use mathlib.Core.List.{[], _∷_};
@@ -90,12 +91,6 @@ const KELER_ROWS: [[u32; 8]; 32] = [
     [5, 2, 1, 0, 0, 0, 403, 0],
     [5, 2, 1, 0, 0, 0, 404, 0],
 ];
-
-fn wide(c: u8) -> u32
-    ensures { λ r. ⌜ r ≡ c ⌝ }
-{
-    c as u32
-}
 
 // A number of a type's entry.
 fn type_number(n: usize, k: usize) -> u32

@@ -3,7 +3,7 @@ pub mod Loops
 pub mod Capped
 pub mod Padding
 pub mod TableRule
+pub mod Rows
 pub mod FieldNumbers
 pub mod Readings
 pub mod LineCallers
-pub mod Walk

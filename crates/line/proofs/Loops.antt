@@ -8,15 +8,11 @@ use native.Mathlib.Numerals.{add-one}
 use native.Mathlib.Omega.{arith}
 use lib.Dec.{eqb, lit≤}
 use borrow.Author.Tests.{eq-eqb, ne-eqb}
-use lib.ListN.{length, getD, drop, drop-of-length-le, List·getD-eq-default}
+use lib.ListN.{length, getD, drop, drop-of-length-le}
 use Rattle.tables.specs.Count.{every}
-use Rattle.meaning.specs.Text.{place, same, decimal, word}
+use Rattle.meaning.specs.Text.{same, decimal, word}
 use Rattle.meaning.specs.Fields.{before, fields}
-use Rattle.meaning.specs.Forms.{lettersText, letterPlace}
 use Rattle.fields.proofs.Cutting.{next, first-field}
-
-pub past-end : (l : List ℕ) (i : ℕ) → length l ≤ i → 0 ≡ getD l i 0
-past-end l i h = sym (List·getD-eq-default l 0 h)
 
 -- ---- a test of every byte
 
@@ -32,13 +28,6 @@ every-next {p} {l} {t} {i = i} r h e f =
 pub every-end : {p : ℕ → Bool} {l : List ℕ} {t : Bool} {i : ℕ} → EveryTo p l t i → length l ≤ i → t ≡ every p l
 unfolding every
 every-end {l = l} {t} r h = sym (and-true t) ∙ rw (drop-of-length-le l h) at (r .left)
-
--- the place in the table of a field that is one letter, or 10
-pub one-letter : (f : List ℕ) {c n : ℕ} → length f ≡ 1 → c ≡ getD f 0 0 → n ≡ place c lettersText → n ≡ letterPlace f
-one-letter f e p q = rw (eq-eqb (length f) 1 e, ← p) q
-
-pub not-one-letter : (f : List ℕ) → (length f ≡ 1 → ⊥) → 10 ≡ letterPlace f
-not-one-letter f e = rw (ne-eqb (length f) 1 e)
 
 -- ---- the count of fields
 

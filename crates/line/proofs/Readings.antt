@@ -1,47 +1,27 @@
 -- What a line gives, test by test: x is what the code answers.
 use mathlib.Core.Path.{_≡_, refl, sym, ap, _∙_}
-use mathlib.Core.Bool.{Bool, true, false, not}
-use mathlib.Core.List.{List, [], _∷_, map}
+use mathlib.Core.Bool.{Bool, true, false, not, _&&_}
+use mathlib.Core.List.{List, [], _∷_}
 use mathlib.Core.Option.{Option, some, none}
-use Prim.Native.Nat.{ℕ, zero, suc, _+_, _-_, _≤_, _<_}
-use borrow.Author.Tests.{eq-eqb, ne-eqb, not-true, not-false}
+use Prim.Native.Nat.{ℕ, _+_, _-_, _≤_, _<_}
+use borrow.Author.Tests.{eqb-true, eq-eqb, ne-eqb, not-true, not-false}
 use native.Mathlib.Omega.{arith}
-use lib.ListN.{length, getD, take, drop, length-drop, drop-of-length-le, List·getD-eq-default}
-use lib.Seq.{take-all}
-use Rattle.tables.specs.Count.{every}
-use Rattle.tables.proofs.Counts.{cases}
+use lib.Dec.{eqb}
+use lib.ListN.{length, getD, take, drop, length-drop, drop-of-length-le}
+use lib.Seq.{take-all, length-take-le}
+use Rattle.tables.specs.Count.{has, every}
+use Rattle.tables.proofs.Counts.{cases-eq, both}
 use Rattle.meaning.specs.Text.{place}
 use Rattle.meaning.specs.Fields.{allowed, wellMade, within, fields}
-use Rattle.meaning.specs.Forms.{Letter, letterQ, letterAt, letterPlace}
-use Rattle.meaning.specs.Records.{commandOf}
-use Rattle.meaning.specs.Reading.{refused, wrong, readAll, byNumbers, byFields, byLetter, reading}
+use Rattle.meaning.specs.Forms.{Letter, shapes, hasLetter}
+use Rattle.meaning.specs.Reading.{refused, readAll, byNumbers, byShape, byFields, numbersRead}
 use Rattle.fields.specs.Cut.{more}
-use Rattle.line.specs.Table.{letterList, letter, placeOf, formsAt, Counted}
+use Rattle.fields.proofs.Cutting.{next, first-field, place-bound}
+use Rattle.line.specs.Table.{rows, shapeAt, atRow, formsAt, letterByte, asShape, firstRow}
 use Rattle.line.specs.Line.{inRow, valuesOf, lineOf, numbersLine}
 use Rattle.line.specs.declared.reading.Values.{Values}
 use Rattle.line.specs.declared.reading.Line.{Line}
-use Rattle.fields.proofs.Cutting.{next, first-field}
-use Rattle.line.proofs.TableRule.{entry}
-use Rattle.line.proofs.Padding.{command-padded}
-
-abbrev counting : ℕ → ℕ → List ℕ
-counting k zero = []
-counting k (suc m) = k ∷ counting (suc k) m
-
--- the places are counted up
-upwards : (k m n : ℕ) → n < m → getD (counting k m) n 0 ≡ k + n
-upwards k zero n h = absurd (omega arith)
-upwards k (suc m) zero h = omega arith
-upwards k (suc m) (suc n) h = upwards (suc k) m n (omega arith) ∙ omega arith
-
-pub place-letter : (n : ℕ) → n < 10 → placeOf (letter n) ≡ n
-place-letter n h = sym (entry placeOf letterList n letterQ 0 h) ∙ upwards 0 10 n h ∙ omega arith
-
-letter-some : (n : ℕ) → n < 10 → letterAt n ≡ some (letter n)
-letter-some n h = entry some letterList n letterQ none h
-
-letter-none : (n : ℕ) → 10 ≤ n → letterAt n ≡ none
-letter-none n h = List·getD-eq-default (map some letterList) none h
+use Rattle.line.proofs.Rows.{no-row, first-at, row-some, row-none}
 
 -- ---- bytes
 
@@ -54,27 +34,42 @@ module _ (l : List ℕ) {t : Bool} (e : t ≡ within 1 80 (length l)) where
   unfolding wellMade
   bad-length f = rw (sym e ∙ f)
 
--- the first field is the letter's
-opened : (l : List ℕ) (e n : ℕ) → e ≡ place 44 l → n ≡ letterPlace (take e l) → byFields (fields l) ≡ byLetter (letterAt n) (more (drop e l))
-unfolding byFields
-opened l e n p q = rw (first-field l, ← p, ← q)
-
 module _ (l : List ℕ) {x : Line} where
-  pub ill-made : {t : Bool} → t ≡ wellMade l → not t ≡ true → x ≡ lineOf (refused 2) → x ≡ lineOf (reading l)
-  unfolding reading
+  pub ill-made : {t : Bool} → t ≡ wellMade l → not t ≡ true → x ≡ lineOf (refused 2) → x ≡ lineOf (numbersRead l)
+  unfolding numbersRead
   ill-made e f r = rw (sym e ∙ not-true _ f) r
 
-  pub well-made : {t : Bool} → t ≡ wellMade l → not t ≡ false → x ≡ lineOf (byFields (fields l)) → x ≡ lineOf (reading l)
-  unfolding reading
+  pub well-made : {t : Bool} → t ≡ wellMade l → not t ≡ false → x ≡ lineOf (byFields (fields l)) → x ≡ lineOf (numbersRead l)
+  unfolding numbersRead
   well-made e f r = rw (sym e ∙ not-false _ f) r
 
-  pub no-letter : {e n : ℕ} → e ≡ place 44 l → n ≡ letterPlace (take e l) → 10 ≤ n → x ≡ lineOf (refused 3) → x ≡ lineOf (byFields (fields l))
-  unfolding byLetter
-  no-letter {e} {n} p q h r = rw (opened l e n p q, letter-none n h) r
+-- ---- the letter
 
-  pub some-letter : {e n : ℕ} → e ≡ place 44 l → n ≡ letterPlace (take e l) → n < 10 → x ≡ lineOf (byLetter (some (letter n)) (more (drop e l)))
-      → x ≡ lineOf (byFields (fields l))
-  some-letter {e} {n} p q h r = rw (opened l e n p q, letter-some n h) r
+-- a first field of one byte
+first-byte : (l : List ℕ) → place 44 l ≡ 1 → take (place 44 l) l ≡ getD l 0 0 ∷ []
+first-byte [] e = absurd (omega arith)
+first-byte (c ∷ l) e = rw e
+
+-- its first field, whose end is at e, is a letter where it is one byte that is a letter
+is-letter : (l : List ℕ) (e : ℕ) (h : Bool) → e ≡ place 44 l → h ≡ has (hasLetter (getD l 0 0 ∷ [])) shapes → has (hasLetter (take e l)) shapes ≡ (eqb e 1 && h)
+is-letter l e h a d =
+    cases-eq e 1
+    (λ o. rw (eq-eqb e 1 o, a, first-byte l (sym a ∙ o)) (sym d))
+    (λ o. rw (ne-eqb e 1 o) (no-row (take e l) (λ z. o (sym (length-take-le e l (omega (arith, place-bound 44 l))) ∙ z))))
+
+module _ (l : List ℕ) {x : Line} {c e : ℕ} {h t u : Bool} (a : e ≡ place 44 l) (b : c ≡ getD l 0 0) (d : h ≡ has (hasLetter (c ∷ [])) shapes) (f : t ≡ (eqb e 1 && h)) (g : u ≡ not t) where
+  pub no-letter : u ≡ true → x ≡ lineOf (refused 3) → x ≡ lineOf (byFields (fields l))
+  unfolding byFields
+  no-letter v r = rw (first-field l, ← a, is-letter l e h a (rw (← b) d), ← f, not-true t (sym g ∙ v)) r
+
+  pub some-letter : {k n : ℕ} → u ≡ false → k ≡ length (more (drop e l)) → n ≡ firstRow (asShape c k) shapes
+      → x ≡ lineOf (byShape (atRow n) (more (drop e l))) → x ≡ lineOf (byFields (fields l))
+  unfolding byFields
+  some-letter {k} {n} v i j r =
+      let y = not-false t (sym g ∙ v) in
+      let o = eqb-true e 1 (both (eqb e 1) h (sym f ∙ y) .0) in
+      let q : take e l ≡ c ∷ [] = rw (a, b) (first-byte l (sym a ∙ o)) in
+      rw (first-field l, ← a, is-letter l e h a (rw (← b) d), ← f, y, q, ← i, first-at (asShape c k) shapes, ← j) r
 
 -- ---- how many fields stand after a comma
 
@@ -95,31 +90,25 @@ some-after l e h q =
 row-line : (l : Letter) (ns : Option (List ℕ)) → numbersLine l (inRow ns) ≡ lineOf (byNumbers l ns)
 unfolding numbersLine inRow byNumbers lineOf
 row-line l none = refl
-row-line l (some ns) =
-    cases (wrong (commandOf l ns)) (λ e. rw (command-padded l ns, e)) (λ e. rw (command-padded l ns, e))
+row-line l (some ns) = refl
 
-module _ (l : List ℕ) (e p : ℕ) {x : Line} {n m : ℕ} where
-  pub miscounted : n ≡ length (more (drop e l)) → Counted p m → (n ≡ m → ⊥) → x ≡ lineOf (refused 4)
-      → x ≡ lineOf (byLetter (some (letter p)) (more (drop e l)))
-  unfolding byLetter formsAt
-  miscounted a b f r = rw (← a, ← b .count, ne-eqb n m f) r
+module _ (l : List ℕ) (e p : ℕ) {x : Line} where
+  pub miscounted : rows ≤ p → x ≡ lineOf (refused 4) → x ≡ lineOf (byShape (atRow p) (more (drop e l)))
+  unfolding byShape
+  miscounted h r = rw (row-none p h) r
 
-  pub well-counted : (v : Values) → n ≡ length (more (drop e l)) → Counted p m → n ≡ m → valuesOf v ≡ inRow (readAll (formsAt p) (more (drop e l)))
-      → x ≡ numbersLine (letter p) (valuesOf v) → x ≡ lineOf (byLetter (some (letter p)) (more (drop e l)))
-  unfolding byLetter formsAt
-  well-counted v a b f q r =
-      rw (← a, ← b .count, eq-eqb n m f) (r ∙ ap (numbersLine (letter p)) q ∙ row-line (letter p) (readAll (formsAt p) (more (drop e l))))
+  pub well-counted : (v : Values) → p < rows → valuesOf v ≡ inRow (readAll (formsAt p) (more (drop e l)))
+      → x ≡ numbersLine (shapeAt p .letter) (valuesOf v) → x ≡ lineOf (byShape (atRow p) (more (drop e l)))
+  unfolding byShape formsAt
+  well-counted v h q r =
+      rw (row-some p h)
+      (r ∙ ap (numbersLine (shapeAt p .letter)) q ∙ row-line (shapeAt p .letter) (readAll (formsAt p) (more (drop e l))))
 
 module _ (p : ℕ) (v : Values) where
-  pub bad-field : {x : Line} → not (v .good) ≡ true → x ≡ lineOf (refused 5) → x ≡ numbersLine (letter p) (valuesOf v)
+  pub bad-field : {x : Line} → not (v .good) ≡ true → x ≡ lineOf (refused 5) → x ≡ numbersLine (shapeAt p .letter) (valuesOf v)
   unfolding numbersLine
   bad-field g r = rw (not-true (v .good) g) r
 
-  module _ {w : Bool} (g : not (v .good) ≡ false) (q : w ≡ wrong (commandOf (letter p) (v .values))) where
-    pub wrong-numbers : {x : Line} → w ≡ true → x ≡ lineOf (refused 5) → x ≡ numbersLine (letter p) (valuesOf v)
-    unfolding numbersLine
-    wrong-numbers f r = rw (not-false (v .good) g, sym q ∙ f) r
-
-    pub right-numbers : p < 10 → w ≡ false → record { refusal = 0; letter = p; values = v .values } ≡ numbersLine (letter p) (valuesOf v)
-    unfolding numbersLine
-    right-numbers h f = rw (not-false (v .good) g, sym q ∙ f, place-letter p h)
+  pub good-fields : {c : ℕ} → not (v .good) ≡ false → c ≡ letterByte (shapeAt p .letter) → record { refusal = 0; letter = c; values = v .values } ≡ numbersLine (shapeAt p .letter) (valuesOf v)
+  unfolding numbersLine
+  good-fields g e = rw (not-false (v .good) g, e)

@@ -1,4 +1,4 @@
--- The code's tables are the meaning's table of letters.
+-- The code's tables are the meaning's table of shapes.
 use mathlib.Core.Path.{_≡_, refl, sym, ap, _∙_}
 use Prim.Native.Nat.{ℕ, zero, suc, _+_, _≤_, _<_}
 use native.Mathlib.Omega.{arith}
@@ -8,29 +8,12 @@ use lib.Dec.{ltb, lit≤}
 use borrow.Author.Tests.{ltb-true}
 use Rattle.tables.specs.Count.{every}
 use Rattle.tables.proofs.Counts.{both}
+use Rattle.tables.proofs.Entries.{map-entry}
 use lib.Seq.{getD-take}
 use lib.ListN.{length, getD, take, replicate, List·getD-eq-default, List·getD-map}
-use Rattle.meaning.specs.Forms.{
-  Form,
-  upTo,
-  csdForm,
-  currencyForm,
-  formsOf,
-  Letter,
-  letterT,
-  letterE,
-  letterR,
-  letterO,
-  letterD,
-  letterM,
-  letterN,
-  letterA,
-  letterZ,
-  letterQ,
-}
-use Rattle.meaning.specs.Records.{commandOf}
-use Rattle.meaning.specs.Reading.{wrong}
-use Rattle.line.specs.Table.{plainForms, plainForm, Most, formAt, letterList, letter, formsAt, Counted}
+use Rattle.meaning.specs.Text.{bytes}
+use Rattle.meaning.specs.Forms.{Form, upTo, csdForm, currencyForm, shapeQ, shapes}
+use Rattle.line.specs.Table.{plainForms, plainForm, Most, formAt, rows, shapeAt, letterByte, formsAt, Counted}
 
 -- what the last arm of a match on n knows, whose other arms are m to m + k - 1
 abbrev NoneFrom : ℕ → ℕ → ℕ → Type 0
@@ -40,28 +23,6 @@ NoneFrom m (suc k) n = NoneFrom m k n × (n ≡ m + k → ⊥)
 pub past : (m k n : ℕ) → m ≤ n → NoneFrom m k n → m + k ≤ n
 past m zero n h r = omega arith
 past m (suc k) n h r = omega (arith, past m k n h (r .0), r .1)
-
--- refusal 5 says nothing more of the letters that are not T, R, A or Q
-pub never-wrong : (p : ℕ) (v : List ℕ) → p < 10 → (((Unit {0} × (p ≡ 0 → ⊥)) × (p ≡ 2 → ⊥)) × (p ≡ 7 → ⊥)) × (p ≡ 9 → ⊥)
-    → wrong (commandOf (letter p) v) ≡ false
-unfolding wrong commandOf
-never-wrong zero v h r = absurd (r .0 .0 .0 .1 refl)
-never-wrong (suc zero) v h r = refl
-never-wrong (suc (suc zero)) v h r = absurd (r .0 .0 .1 refl)
-never-wrong (suc (suc (suc zero))) v h r = refl
-never-wrong (suc (suc (suc (suc zero)))) v h r = refl
-never-wrong (suc (suc (suc (suc (suc zero))))) v h r = refl
-never-wrong (suc (suc (suc (suc (suc (suc zero)))))) v h r = refl
-never-wrong (suc (suc (suc (suc (suc (suc (suc zero))))))) v h r = absurd (r .0 .1 refl)
-never-wrong (suc (suc (suc (suc (suc (suc (suc (suc zero)))))))) v h r = refl
-never-wrong (suc (suc (suc (suc (suc (suc (suc (suc (suc zero))))))))) v h r = absurd (r .1 refl)
-never-wrong (suc (suc (suc (suc (suc (suc (suc (suc (suc (suc p)))))))))) v h r = absurd (omega arith)
-
--- a function at each entry of a table
-pub entry : {A B : Type 0} (f : A → B) (l : List A) (n : ℕ) (d : A) (e : B) → n < length l → getD (map f l) n e ≡ f (getD l n d)
-entry f [] n d e h = absurd (omega arith)
-entry f (x ∷ xs) zero d e h = refl
-entry f (x ∷ xs) (suc n) d e h = entry f xs n d e (omega arith)
 
 -- ---- the forms of numbers
 
@@ -77,14 +38,18 @@ small-each (x ∷ l) m (suc n) h e = small-each l m n h (both (ltb x m) (every (
 pub most-form : (n : ℕ) → n < 8 → Most n (getD mosts n 0)
 unfolding every
 most-form n h = record {
-  whole = sym (entry upTo mosts n 0 currencyForm h) ∙ getD-take 8 plainForms n currencyForm h;
+  whole = sym (map-entry upTo mosts n 0 currencyForm h) ∙ getD-take 8 plainForms n currencyForm h;
   small = small-each mosts 100000000 n (lit≤ tt) refl;
 }
 
 pub last-form : (n : ℕ) → 15 ≤ n → plainForm n ≡ currencyForm
 last-form n h = List·getD-eq-default plainForms currencyForm h
 
--- ---- the table of letters
+-- ---- the table of shapes
+
+pub lettered : (n : ℕ) → n < rows → getD (bytes "TERODMNAZQ") n 0 ≡ letterByte (shapeAt n .letter)
+unfolding shapes
+lettered n h = map-entry (λ s. letterByte (s .letter)) shapes n shapeQ 0 h
 
 abbrev numbers : List (List ℕ)
 numbers =
@@ -111,30 +76,21 @@ behind [] (suc m) (suc k) = behind [] m k
 behind (φ ∷ φs) m zero = refl
 behind (φ ∷ φs) m (suc k) = behind φs m k
 
--- the table's rule, once: the numbers are those of the meaning's forms
-pub numbered-form : (n k : ℕ) → n < 10 → k < 15 → formAt (getD (getD numbers n []) k 0) ≡ getD (formsAt n) k csdForm
-unfolding formsAt formsOf
+-- the numbers are those of the rows' forms
+pub numbered-form : (n k : ℕ) → n < rows → k < 15 → formAt (getD (getD numbers n []) k 0) ≡ getD (formsAt n) k csdForm
+unfolding formsAt shapes
 numbered-form n k h j =
     sym (List·getD-map formAt (getD numbers n []) k 0)
-    ∙ ap (λ fs. getD fs k csdForm) (sym (entry (map formAt) numbers n [] [] h) ∙ entry (λ l. fifteen (formsOf l)) letterList n letterQ [] h)
+    ∙ ap (λ fs. getD fs k csdForm) (sym (map-entry (map formAt) numbers n [] [] h) ∙ map-entry (λ s. fifteen (s .forms)) shapes n shapeQ [] h)
     ∙ getD-take 15 (formsAt n ++ replicate 15 csdForm) k csdForm j
     ∙ behind (formsAt n) 15 k
 
-few-forms : (l : Letter) → length (formsOf l) ≤ 15
-unfolding formsOf
-few-forms letterT = lit≤ tt
-few-forms letterE = lit≤ tt
-few-forms letterR = lit≤ tt
-few-forms letterO = lit≤ tt
-few-forms letterD = lit≤ tt
-few-forms letterM = lit≤ tt
-few-forms letterN = lit≤ tt
-few-forms letterA = lit≤ tt
-few-forms letterZ = lit≤ tt
-few-forms letterQ = lit≤ tt
+abbrev counts : List ℕ
+counts = 7 ∷ 5 ∷ 9 ∷ 6 ∷ 5 ∷ 15 ∷ 15 ∷ 7 ∷ 7 ∷ 11 ∷ []
 
-pub counted : (p : ℕ) → p < 10 → Counted p (getD (7 ∷ 5 ∷ 9 ∷ 6 ∷ 5 ∷ 15 ∷ 15 ∷ 7 ∷ 7 ∷ 11 ∷ []) p 0)
-unfolding formsAt formsOf
-counted p h =
-    let e = entry (λ l. length (formsOf l)) letterList p letterQ 0 h in
-    record { count = e; few = omega (arith, e, few-forms (letter p)) }
+pub counted : (n : ℕ) → n < rows → Counted n (getD counts n 0)
+unfolding formsAt shapes every
+counted n h = record {
+  count = map-entry (λ s. length (s .forms)) shapes n shapeQ 0 h;
+  few = omega (arith, small-each counts 16 n (lit≤ tt) refl);
+}

@@ -4,18 +4,12 @@ use mathlib.Core.Bool.{cond}
 use mathlib.Core.List.{List, [], _∷_}
 use mathlib.Core.Option.{Option, some, none}
 use lib.ListN.{set}
+use Rattle.tables.specs.Padded.{padded}
 use Rattle.meaning.specs.Forms.{Form, Letter, read}
-use Rattle.meaning.specs.Records.{commandOf}
-use Rattle.meaning.specs.Reading.{Reading, refused, asks, wrong}
-use Rattle.line.specs.Table.{placeOf}
+use Rattle.meaning.specs.Reading.{Reading, refused, asks}
+use Rattle.line.specs.Table.{letterByte}
 use Rattle.line.specs.declared.reading.Values.{Values}
 use Rattle.line.specs.declared.reading.Line.{Line}
-
--- n numbers: the list's, and zeros after them
-unfoldable pub padded : ℕ → List ℕ → List ℕ
-padded zero ns = []
-padded (suc n) [] = 0 ∷ padded n []
-padded (suc n) (x ∷ ns) = x ∷ padded n ns
 
 -- the numbers of a line's fields in a row of sixteen
 unfoldable pub inRow : Option (List ℕ) → Option (List ℕ)
@@ -42,11 +36,10 @@ valuesOf v = cond (v .good) (some (v .values)) none
 unfoldable pub lineOf : Reading → Line
 unfolding padded
 lineOf (refused n) = record { refusal = n; letter = 0; values = padded 16 [] }
-lineOf (asks l ns) = record { refusal = 0; letter = placeOf l; values = padded 16 ns }
+lineOf (asks l ns) = record { refusal = 0; letter = letterByte l; values = padded 16 ns }
 
 -- the line that a letter and a row of numbers make
 unfoldable pub numbersLine : Letter → Option (List ℕ) → Line
-unfolding wrong commandOf lineOf
+unfolding lineOf
 numbersLine l none = lineOf (refused 5)
-numbersLine l (some v) =
-    cond (wrong (commandOf l v)) (lineOf (refused 5)) (record { refusal = 0; letter = placeOf l; values = v })
+numbersLine l (some v) = record { refusal = 0; letter = letterByte l; values = v }

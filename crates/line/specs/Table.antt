@@ -1,8 +1,9 @@
--- The table of letters (document 01, 'Lines'), with a number for each form. Assumes nothing.
-use Prim.Native.Nat.{ℕ, _-_, _≤_, _<_}
+-- The table of shapes (document 01, 'Lines'), with a number for each form and each row. Assumes nothing.
+use Prim.Native.Nat.{ℕ, suc, _-_, _≤_, _<_}
 use mathlib.Core.Path.{_≡_}
-use mathlib.Core.Bool.{cond}
-use mathlib.Core.List.{List, [], _∷_}
+use mathlib.Core.Bool.{Bool, cond, _&&_}
+use mathlib.Core.List.{List, [], _∷_, map}
+use mathlib.Core.Option.{Option, some, none}
 use lib.Dec.{ltb}
 use lib.ListN.{length, getD}
 use Rattle.meaning.specs.Forms.{
@@ -25,18 +26,13 @@ use Rattle.meaning.specs.Forms.{
   paymentForm,
   transactionForm,
   currencyForm,
-  formsOf,
   Letter,
-  letterT,
-  letterE,
-  letterR,
-  letterO,
-  letterD,
-  letterM,
-  letterN,
-  letterA,
-  letterZ,
-  letterQ,
+  letterText,
+  Shape,
+  shapeQ,
+  shapes,
+  hasLetter,
+  hasLength,
 }
 
 -- the forms that take no empty field, in the order of their numbers; every number from 15 on is the currency's
@@ -71,32 +67,37 @@ pub record Most (form m : ℕ) : Type 0 where
 abbrev pub formAt : ℕ → Form
 formAt n = cond (ltb n 16) (plainForm n) (optional (plainForm (n - 16)))
 
-abbrev pub letterList : List Letter
-letterList =
-    letterT ∷ letterE ∷ letterR ∷ letterO ∷ letterD ∷ letterM ∷ letterN ∷ letterA ∷ letterZ ∷ letterQ ∷ []
+-- ---- the table of shapes
 
--- the letter at a place of the table
-abbrev pub letter : ℕ → Letter
-letter n = getD letterList n letterQ
+-- how many rows it has
+abbrev pub rows : ℕ
+rows = 10
 
--- a letter's place in the table
-abbrev pub placeOf : Letter → ℕ
-placeOf letterT = 0
-placeOf letterE = 1
-placeOf letterR = 2
-placeOf letterO = 3
-placeOf letterD = 4
-placeOf letterM = 5
-placeOf letterN = 6
-placeOf letterA = 7
-placeOf letterZ = 8
-placeOf letterQ = 9
+-- row n
+abbrev pub shapeAt : ℕ → Shape
+shapeAt n = getD shapes n shapeQ
+
+-- row n; none past the end
+abbrev pub atRow : ℕ → Option Shape
+atRow n = getD (map some shapes) n none
 
 unfoldable pub formsAt : ℕ → List Form
-unfolding formsOf
-formsAt n = formsOf (letter n)
+formsAt n = shapeAt n .forms
 
--- n fields stand after the letter at place p
+-- a letter as it stands in a line: one byte
+abbrev pub letterByte : Letter → ℕ
+letterByte l = getD (letterText l) 0 0
+
+-- whether a row has that letter and that many fields
+abbrev pub asShape : ℕ → ℕ → Shape → Bool
+asShape c n s = hasLetter (c ∷ []) s && hasLength n s
+
+-- the number of the first row that passes a test; the table's length where none does
+unfoldable pub firstRow : (Shape → Bool) → List Shape → ℕ
+firstRow p [] = 0
+firstRow p (s ∷ ss) = cond (p s) 0 (suc (firstRow p ss))
+
+-- n fields stand after the letter of row p
 pub record Counted (p n : ℕ) : Type 0 where
   pub count : n ≡ length (formsAt p)
   pub few : n ≤ 15

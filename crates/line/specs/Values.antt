@@ -8,8 +8,8 @@ use Rattle.line.specs.declared.forms.Value.{Value}
 use Rattle.line.specs.declared.forms.Value.the-variants.{Is, Wrong}
 
 -- the classes of bytes: 0 digits, 1 capital letters, any other all that are allowed
-abbrev pub belongs : ℕ → ℕ → Bool
-belongs class c = cond (eqb class 0) (isDigit c) (cond (eqb class 1) (isCapital c) (allowed c))
+abbrev pub ofClass : ℕ → ℕ → Bool
+ofClass class c = cond (eqb class 0) (isDigit c) (cond (eqb class 1) (isCapital c) (allowed c))
 
 -- the number of a field, none where it is outside its form
 abbrev pub valueOf : Value → Option ℕ

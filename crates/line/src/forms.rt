@@ -1,13 +1,13 @@
 // The number that a field gives, by its form (document 01, 'Lines').
 use crate::CAPITALS;
 use crate::DIGITS;
-use crate::and;
-use crate::byte_at;
 use crate::every;
-use crate::pick;
 use crate::same;
-use crate::wide;
-use crate::within;
+use basics::and;
+use basics::byte_at;
+use basics::pick;
+use basics::wide;
+use basics::within;
 use days::is_day;
 ghost use Prim.Native.Nat.{_-_, _<_, _≤_, min};
 ghost use mathlib.Core.Path.{_≡_};

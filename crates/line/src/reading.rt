@@ -1,11 +1,7 @@
 // Reads a line of bytes: refusals 2 to 5, or its letter and the numbers of its fields (document 01, 'Lines' and the refusals).
 use crate::ALLOWED;
-use crate::and;
-use crate::byte_at;
-use crate::choose;
 use crate::count;
 use crate::every;
-use crate::find;
 use crate::forms::CO;
 use crate::forms::CR;
 use crate::forms::CS;
@@ -25,23 +21,27 @@ use crate::forms::TR;
 use crate::forms::TY;
 use crate::forms::Value;
 use crate::forms::field_value;
-use crate::or;
+use basics::and;
+use basics::byte_at;
+use basics::no;
 use fields::LineReader;
-ghost use Prim.Native.Nat.{_+_, _<_};
+use fields::find;
+ghost use Prim.Native.Nat.{_<_};
 ghost use mathlib.Core.Path.{_≡_};
+ghost use mathlib.Core.List.{[], _∷_};
 ghost use mathlib.Core.Option.{some};
 ghost use lib.ListN.{getD, drop, length, replicate};
+ghost use Rattle.tables.specs.Count.{has};
 ghost use Rattle.meaning.specs.Text.{place};
 ghost use Rattle.meaning.specs.Fields.{wellMade, fields};
-ghost use Rattle.meaning.specs.Forms.{csdForm, letterPlace};
-ghost use Rattle.meaning.specs.Records.{commandOf};
-ghost use Rattle.meaning.specs.Reading.{readAll, wrong, refused, byLetter, byFields, reading};
+ghost use Rattle.meaning.specs.Forms.{csdForm, shapes, hasLetter};
+ghost use Rattle.meaning.specs.Reading.{readAll, refused, byShape, byFields, numbersRead};
 ghost use Rattle.line.specs.Values.{valueOf};
 ghost use Rattle.fields.specs.Cut.{more, Passes};
-ghost use Rattle.line.specs.Table.{formAt, formsAt, Counted, letter as letterOfPlace};
+ghost use Rattle.line.specs.Table.{rows, formAt, formsAt, Counted, letterByte, shapeAt, atRow, firstRow, asShape};
 ghost use Rattle.line.specs.Line.{firstRead, putAt, inRow, valuesOf, numbersLine, lineOf};
 
-// ---- the table of letters
+// ---- the table of shapes: a letter and the forms of the fields after it
 
 // The forms of a row's ten values, each of which may be empty.
 const V0: u8 = OPTIONAL + PT;
@@ -64,7 +64,16 @@ const V8: u8 = OPTIONAL + CO;
 
 const V9: u8 = OPTIONAL + CU;
 
-// The forms of the fields after each letter, T, E, R, O, D, M, N, A, Z, Q. What stands after the last field is never read.
+// How many rows the table has. A row is named by its number.
+const SHAPES: u8 = 10;
+
+// The letter of each row.
+const LETTERS: [u8; 10] = [b'T', b'E', b'R', b'O', b'D', b'M', b'N', b'A', b'Z', b'Q'];
+
+// How many fields stand after each row's letter.
+const COUNTS: [usize; 10] = [7, 5, 9, 6, 5, 15, 15, 7, 7, 11];
+
+// The forms of the fields after each row's letter. What stands after the last field is never read.
 const FORMS: [[u8; 15]; 10] = [
     [CS, DY, TY, OB, PR, DY, DY, 0, 0, 0, 0, 0, 0, 0, 0],
     [CS, DY, TY, OB, DY, 0, 0, 0, 0, 0, 0, 0, 0, 0, 0],
@@ -78,48 +87,54 @@ const FORMS: [[u8; 15]; 10] = [
     [CS, DY, OB, PT, V1, V2, V3, V9, NU, NU, NU, 0, 0, 0, 0],
 ];
 
-// The places of four letters in the table.
-const T: u8 = 0;
-
-const R: u8 = 2;
-
-const A: u8 = 7;
-
-const Q: u8 = 9;
-
-// How many fields stand after each letter.
-const COUNTS: [usize; 10] = [7, 5, 9, 6, 5, 15, 15, 7, 7, 11];
-
-// The number of the form of a letter's field.
-fn form_number(letter: u8, k: usize) -> u8
-    requires { ⌜ (letter < 10) × (k < 15) ⌝ }
-    ensures { λ r. ⌜ formAt r ≡ getD (formsAt letter) k csdForm ⌝ }
+fn shape_letter(shape: u8) -> u8
+    requires { ⌜ shape < rows ⌝ }
+    ensures { λ r. ⌜ r ≡ letterByte (shapeAt shape .letter) ⌝ }
 {
-    FORMS[letter as usize][k]
+    LETTERS[shape as usize]
 }
 
-fn form_count(letter: u8) -> usize
-    requires { ⌜ letter < 10 ⌝ }
-    ensures { λ r. ⌜ Counted letter r ⌝ }
+fn form_count(shape: u8) -> usize
+    requires { ⌜ shape < rows ⌝ }
+    ensures { λ r. ⌜ Counted shape r ⌝ }
 {
-    COUNTS[letter as usize]
+    COUNTS[shape as usize]
 }
 
-// The index of the first c.
-fn place(s: &[u8], c: u8) -> usize
-    ensures { λ r. ⌜ r ≡ place c (now (s .entry)) ⌝ }
+// The number of the form of field k.
+fn form_number(shape: u8, k: usize) -> u8
+    requires { ⌜ (shape < rows) × (k < 15) ⌝ }
+    ensures { λ r. ⌜ formAt r ≡ getD (formsAt shape) k csdForm ⌝ }
 {
-    find(s, 0, c)
+    FORMS[shape as usize][k]
 }
 
-// The place in the table of a field that is one of its letters; 10 for any other.
-fn letter_place(f: &[u8]) -> u8
-    ensures { λ r. ⌜ r ≡ letterPlace (now (f .entry)) ⌝ }
+// Whether a row has that letter.
+fn has_letter(letter: u8) -> bool
+    ensures { λ r. ⌜ r ≡ has (hasLetter (letter ∷ [])) shapes ⌝ }
 {
-    if f.len() == 1 {
-        return place(b"TERODMNAZQ", byte_at(f, 0)) as u8;
+    let mut shape: u8 = 0;
+    while shape < SHAPES {
+        if letter == shape_letter(shape) {
+            return true;
+        }
+        shape += 1;
     }
-    10
+    false
+}
+
+// The first row with that letter and that many fields after it; SHAPES where there is none.
+fn first_shape(letter: u8, count: usize) -> u8
+    ensures { λ r. ⌜ r ≡ firstRow (asShape letter count) shapes ⌝ }
+{
+    let mut shape: u8 = 0;
+    while shape < SHAPES {
+        if and(letter == shape_letter(shape), count == form_count(shape)) {
+            return shape;
+        }
+        shape += 1;
+    }
+    shape
 }
 
 // ---- the fields of a line
@@ -171,58 +186,35 @@ fn with_value(row: Values, k: usize, v: Value) -> Values
     }
 }
 
-// The row with the number of the field after a comma in the place of the letter's field k.
-fn with_field(row: Values, line: &[u8], comma: usize, end: usize, letter: u8, k: usize) -> Values
-    requires { ⌜ (letter < 10) × ((k < 15) × Passes (now line) comma end) ⌝ }
-    ensures { λ r. ⌜ valuesOf r ≡ putAt k (firstRead (getD (formsAt letter) k csdForm) (more (drop comma (now (line .entry))))) (valuesOf row) ⌝ }
+// The row with the number of the field after a comma in the place of the shape's field k.
+fn with_field(row: Values, line: &[u8], comma: usize, end: usize, shape: u8, k: usize) -> Values
+    requires { ⌜ (shape < rows) × ((k < 15) × Passes (now line) comma end) ⌝ }
+    ensures { λ r. ⌜ valuesOf r ≡ putAt k (firstRead (getD (formsAt shape) k csdForm) (more (drop comma (now (line .entry))))) (valuesOf row) ⌝ }
 {
-    with_value(
-        row,
-        k,
-        value_after(line, comma, end, form_number(letter, k)),
-    )
+    with_value(row, k, value_after(line, comma, end, form_number(shape, k)))
 }
 
 // The numbers of the fields after a comma. The reader moves from field to field.
-fn read_values(line: &[u8], letter: u8, start: usize) -> Values
-    requires { ⌜ letter < 10 ⌝ }
-    ensures { λ r. ⌜ valuesOf r ≡ inRow (readAll (formsAt letter) (more (drop start (now (line .entry))))) ⌝ }
+fn read_values(line: &[u8], shape: u8, start: usize) -> Values
+    requires { ⌜ shape < rows ⌝ }
+    ensures { λ r. ⌜ valuesOf r ≡ inRow (readAll (formsAt shape) (more (drop start (now (line .entry))))) ⌝ }
 {
-    let n = form_count(letter);
+    let n = form_count(shape);
     let mut row = no_values();
     let mut reader = LineReader::new(line, start);
     let mut k = 0;
     while k < n {
         let next = reader.next();
-        row = with_field(row, line, reader.at, next.at, letter, k);
+        row = with_field(row, line, reader.at, next.at, shape, k);
         reader = next;
         k += 1;
     }
     row
 }
 
-// What no single field shows of refusal 5: processing is 3 with object 2, first is after last, or a question's movement and payment are
-// empty for object 1 or filled for object 2.
-fn is_wrong(letter: u8, v: &[u32; 16]) -> bool
-    requires { ⌜ letter < 10 ⌝ }
-    ensures { λ r. ⌜ r ≡ wrong (commandOf (letterOfPlace letter) (now (v .entry))) ⌝ }
-{
-    match letter {
-        T => or(and(v[4] == 3, v[3] == 2), v[6] < v[5]),
-        R => v[8] < v[7],
-        A => v[6] < v[5],
-        Q => choose(
-            v[2] == 1,
-            or(v[4] == 0, v[5] == 0),
-            !and(v[4] == 0, v[5] == 0),
-        ),
-        _ => false,
-    }
-}
-
 // ---- a line
 
-// A line as it is read: the refusal, 0 for none; the letter's place in the table; the numbers of the fields after it, and zeros after them.
+// A line as it is read: the refusal, 0 for none; the letter, as its byte; the numbers of the fields after it, and zeros after them.
 // A refused line has zeros there.
 pub struct Line {
     pub refusal: u8,
@@ -240,18 +232,16 @@ fn refused(n: u8) -> Line
     }
 }
 
-// 5: a field is outside its form or range, or what `is_wrong` says.
-fn by_numbers(letter: u8, v: Values) -> Line
-    requires { ⌜ letter < 10 ⌝ }
-    ensures { λ r. ⌜ r ≡ numbersLine (letterOfPlace letter) (valuesOf v) ⌝ }
+// 5: a field is outside its form or range.
+fn by_numbers(shape: u8, v: Values) -> Line
+    requires { ⌜ shape < rows ⌝ }
+    ensures { λ r. ⌜ r ≡ numbersLine (shapeAt shape .letter) (valuesOf v) ⌝ }
 {
     if !v.good {
         return refused(5);
     }
+    let letter = shape_letter(shape);
     let values = v.values;
-    if is_wrong(letter, &values) {
-        return refused(5);
-    }
     Line {
         refusal: 0,
         letter,
@@ -270,27 +260,34 @@ fn count_after(line: &[u8], comma: usize) -> usize
     count(&line[at..])
 }
 
-// 4: the number of fields differs from the letter's.
-fn by_letter(line: &[u8], comma: usize, letter: u8) -> Line
-    requires { ⌜ letter < 10 ⌝ }
-    ensures { λ r. ⌜ r ≡ lineOf (byLetter (some (letterOfPlace letter)) (more (drop comma (now (line .entry))))) ⌝ }
+// 4: no row has the letter and that many fields.
+fn by_shape(line: &[u8], comma: usize, shape: u8) -> Line
+    ensures { λ r. ⌜ r ≡ lineOf (byShape (atRow shape) (more (drop comma (now (line .entry))))) ⌝ }
 {
-    if count_after(line, comma) != form_count(letter) {
+    if shape >= SHAPES {
         return refused(4);
     }
-    by_numbers(letter, read_values(line, letter, comma))
+    by_numbers(shape, read_values(line, shape, comma))
 }
 
-// 3: the first field isn't a letter of the table.
+// The index of the first comma; the end, where there is none.
+fn first_comma(line: &[u8]) -> usize
+    ensures { λ r. ⌜ r ≡ place 44 (now (line .entry)) ⌝ }
+{
+    find(line, 0, b',')
+}
+
+// 3: the first field isn't a letter of the table. A letter is one byte.
 fn by_fields(line: &[u8]) -> Line
     ensures { λ r. ⌜ r ≡ lineOf (byFields (fields (now (line .entry)))) ⌝ }
 {
-    let comma = place(line, b',');
-    let letter = letter_place(&line[..comma]);
-    if letter >= 10 {
+    let comma = first_comma(line);
+    let letter = byte_at(line, 0);
+    if no(and(comma == 1, has_letter(letter))) {
         return refused(3);
     }
-    by_letter(line, comma, letter)
+    let count = count_after(line, comma);
+    by_shape(line, comma, first_shape(letter, count))
 }
 
 // 1 to 80 bytes, each allowed. The length comes first, so that no more than 80 bytes are looked at.
@@ -304,9 +301,9 @@ fn well_made(line: &[u8]) -> bool
     false
 }
 
-// Refusals 2 to 5, or the letter and the numbers.
+// Refusals 2 to 5, or the letter and the numbers. Whether the numbers together are wrong (5 too) is not tested here.
 pub fn read_line(line: &[u8]) -> Line
-    ensures { λ r. ⌜ r ≡ lineOf (reading (now (line .entry))) ⌝ }
+    ensures { λ r. ⌜ r ≡ lineOf (numbersRead (now (line .entry))) ⌝ }
 {
     if !well_made(line) {
         return refused(2);

@@ -1,5 +1,6 @@
-// Reads lines from standard input and writes the refusal of each, 0 for none; then answers in their printed forms. tools/line_vectors.py writes
-// what it reads and must write.
+// Reads lines from standard input and writes of each its refusal or, where it is read, its letter; then answers in their printed forms.
+// tools/line_vectors.py writes what it reads and must write.
+use basics::pick_byte;
 use libc::STDIN_FILENO;
 use libc::STDOUT_FILENO;
 use meaning::Answer;
@@ -9,7 +10,8 @@ use meaning::Verdict;
 fn show(line: &[u8]) {
     let r = line::read_line(line);
     let n = r.refusal;
-    io::write_all(STDOUT_FILENO, &[b'0' + n, b'\n']);
+    let shown = pick_byte(n == 0, r.letter, b'0' + n);
+    io::write_all(STDOUT_FILENO, &[shown, b'\n']);
 }
 
 // The lines of a text, one after the other.

@@ -6,8 +6,7 @@ use mathlib.Core.List.{List}
 use native.Mathlib.Omega.{arith}
 use lib.Dec.{eqb}
 use Rattle.tables.specs.Count.{countBelow}
-use Rattle.tables.specs.Below.{anyBelow}
-use Rattle.tables.specs.Keyed.{hits, entry, afterPlace, Keyed}
+use Rattle.tables.specs.Keyed.{entry, afterPlace, Keyed}
 use Rattle.tables.proofs.Counts.{cases-eq}
 use Rattle.tables.proofs.Keying.{keyed-more}
 use Rattle.owners.specs.Next.{next, Passed}
@@ -39,14 +38,6 @@ module _ {P : Type 0} (csd : P → ℕ) (a : ℕ) (at : ℕ → P) (places : ℕ
       still j o = rw o (omega arith)
 
   module _ (key : P → ℕ) (on : P → Bool) where
-    -- Whether one of its places has a key.
-    pub any-next : (x i k : ℕ) → k ≡ next (λ j. eqb (csd (at j)) a) places i → i ≤ places → anyBelow (hits csd a at key on x) k ≡ anyBelow (hits csd a at key on x) i
-    unfolding anyBelow
-    any-next x i k e l = fold-next (anyBelow (hits csd a at key on x)) still i k e l
-      where
-        still : (j : ℕ) → eqb (csd (at j)) a ≡ false → anyBelow (hits csd a at key on x) (suc j) ≡ anyBelow (hits csd a at key on x) j
-        still j o = rw o
-
     -- A table addressed by key.
     pub keyed-next : (size : ℕ) (step : P → ℕ → ℕ) (t : List ℕ) (i k : ℕ) → Keyed size csd a at key on step t i → k ≡ next (λ j. eqb (csd (at j)) a) places i → i ≤ places → Keyed size csd a at key on step t k
     unfolding entry

@@ -11,9 +11,11 @@ use Rattle.tables.specs.Below.{anyBelow}
 use Rattle.tables.specs.Count.{every}
 use Rattle.tables.proofs.Zeros.{numbers-zeros}
 use Rattle.tables.proofs.Counts.{ands}
+use Rattle.meaning.specs.Records.{ruleQuota}
+use Rattle.chains.specs.Sizes.{blockPlaces, typeHeads, ruleHeads}
 use Rattle.meaning.specs.Keys.{isRule}
 use Rattle.meaning.specs.Sound.{ruleFits, fillsRule}
-use Rattle.places.specs.Layout.{ruleAt, zeroRow, ruleStart, ruleWidths, ruleFrom}
+use Rattle.places.specs.Layout.{ruleAt, zeroRow, ruleStart, ruleWidths, ruleFrom, typePlaces, rulePlaces, ruleBase, ruleWidth}
 use Rattle.places.specs.declared.Rule.{Rule}
 use Rattle.places.specs.declared.Row.{Row}
 use Rattle.records.specs.Said.{ruleOf, rowOf}
@@ -32,7 +34,7 @@ use Rattle.chains.proofs.Blocking.{zero-numbers, block-over}
 use Rattle.soundness.proofs.TypeTable.{type-found}
 
 module _ (b : List ℕ) where
-  inside : (k : ℕ) → ruleCsd b k ≤ 8 → ruleChain b k < 1152
+  inside : (k : ℕ) → ruleCsd b k ≤ 8 → ruleChain b k < ruleHeads
   unfolding ruleCsd ruleChain
   inside k l = omega arith
 
@@ -55,41 +57,41 @@ module _ (b : List ℕ) where
   filled-only w j e = of-key (w .csd) (w .number) (w .object) (w .sequence) j (search ands) (search ands)
 
   -- What is found in the chains of the whole table.
-  pub rule-found : (head next : List ℕ) (w : Row) → Chained (ruleCsd b) (ruleChain b) 1152 512 head next 512 → (w .csd ≡ 0 → ⊥) → w .csd ≤ 8 → ruleFilled b w head next ≡ anyBelow (ruleHit b (w .csd) Rules.Fills (rowOf w)) 512
+  pub rule-found : (head next : List ℕ) (w : Row) → Chained (ruleCsd b) (ruleChain b) ruleHeads rulePlaces head next rulePlaces → (w .csd ≡ 0 → ⊥) → w .csd ≤ 8 → ruleFilled b w head next ≡ anyBelow (ruleHit b (w .csd) Rules.Fills (rowOf w)) rulePlaces
   unfolding ruleFilled
   rule-found head next w m u l =
-      table-any (ruleCsd b) (ruleChain b) 1152 512 head next m (ruleHit b (w .csd) Rules.Fills (rowOf w)) (w .csd)
+      table-any (ruleCsd b) (ruleChain b) ruleHeads rulePlaces head next m (ruleHit b (w .csd) Rules.Fills (rowOf w)) (w .csd)
       (ruleBucket (w .csd) (w .number) (w .object) (w .sequence)) u (filled-only w) (omega arith)
 
-  pub rule-free : (i : ℕ) (t : Rule) (r : Bool) (counts head next : List ℕ) → r ≡ ruleZero t → t .csd ≡ 0 → t ≡ ruleAt b i → Ready (ruleCsd b) (ruleChain b) 1152 512 i counts head next → Passed (ruleCsd b) (ruleChain b) 1152 512 (ruleRight b) i r counts head next
+  pub rule-free : (i : ℕ) (t : Rule) (r : Bool) (counts head next : List ℕ) → r ≡ ruleZero t → t .csd ≡ 0 → t ≡ ruleAt b i → Ready (ruleCsd b) (ruleChain b) ruleHeads rulePlaces i counts head next → Passed (ruleCsd b) (ruleChain b) ruleHeads rulePlaces (ruleRight b) i r counts head next
   unfolding ruleCsd ruleRight
   rule-free i t r counts head next er z e m =
-      passed-free (ruleCsd b) (ruleChain b) 1152 512 (λ k. ruleZero (ruleAt b k)) (ruleRest b) (ruleSame b) 64 i r counts head next m
+      passed-free (ruleCsd b) (ruleChain b) ruleHeads rulePlaces (λ k. ruleZero (ruleAt b k)) (ruleRest b) (ruleSame b) ruleQuota i r counts head next m
       (ap (λ x. x .csd) (sym e) ∙ z) (er ∙ ap ruleZero e)
 
-  pub rule-used : (i k : ℕ) (t : Rule) (r : Bool) (starts links counts head next counts′ head′ next′ : List ℕ) → Entered (t .csd) k i counts head next counts′ head′ next′ → k ≡ ruleBucket (t .csd) (t .number) (t .object) (t .sequence) → r ≡ rightBy (ruleFits (ruleOf t) && typeHeld b (t .csd) (t .number) (t .object) starts links) (ruleHeld b t head next) 64 (t .csd) counts → t ≡ ruleAt b i → Ready (ruleCsd b) (ruleChain b) 1152 512 i counts head next → Chained (typeCsd b) (typeChain b) 576 128 starts links 128 → (t .csd ≡ 0 → ⊥) → Passed (ruleCsd b) (ruleChain b) 1152 512 (ruleRight b) i r counts′ head′ next′
+  pub rule-used : (i k : ℕ) (t : Rule) (r : Bool) (starts links counts head next counts′ head′ next′ : List ℕ) → Entered (t .csd) k i counts head next counts′ head′ next′ → k ≡ ruleBucket (t .csd) (t .number) (t .object) (t .sequence) → r ≡ rightBy (ruleFits (ruleOf t) && typeHeld b (t .csd) (t .number) (t .object) starts links) (ruleHeld b t head next) ruleQuota (t .csd) counts → t ≡ ruleAt b i → Ready (ruleCsd b) (ruleChain b) ruleHeads rulePlaces i counts head next → Chained (typeCsd b) (typeChain b) typeHeads typePlaces starts links typePlaces → (t .csd ≡ 0 → ⊥) → Passed (ruleCsd b) (ruleChain b) ruleHeads rulePlaces (ruleRight b) i r counts′ head′ next′
   unfolding ruleHeld ruleCsd ruleChain ruleSame ruleRest ruleRight
   rule-used i k t r starts links counts head next counts′ head′ next′ n ek er e m ty u =
-      passed-used (ruleCsd b) (ruleChain b) 1152 512 (λ k. ruleZero (ruleAt b k)) (ruleRest b) (ruleSame b) 64
+      passed-used (ruleCsd b) (ruleChain b) ruleHeads rulePlaces (λ k. ruleZero (ruleAt b k)) (ruleRest b) (ruleSame b) ruleQuota
       (λ k. rule-nobody (ruleAt b k)) inside rule-only (omega arith) i (t .csd) k (ruleFits (ruleOf t) && typeHeld b (t .csd) (t .number) (t .object) starts links)
       (ruleHeld b t head next) r counts head next counts′ head′ next′ m n (λ z. u (ap (λ x. x .csd) e ∙ z)) (ap (λ x. x .csd) e)
       (ek ∙ ap (λ x. ruleBucket (x .csd) (x .number) (x .object) (x .sequence)) e) er (ap (λ x. ruleHeld b x head next) e)
       (λ l.
       ap (λ x. ruleFits (ruleOf t) && x) (type-found b starts links (t .csd) (t .number) (t .object) ty u l)
-      ∙ ap (λ x. ruleFits (ruleOf x) && anyBelow (typeHit b (x .csd) (Types.Named (x .number) (x .object))) 128) e)
+      ∙ ap (λ x. ruleFits (ruleOf x) && anyBelow (typeHit b (x .csd) (Types.Named (x .number) (x .object))) typePlaces) e)
 
   -- What `rule_held` leaves to show: no row is asked for.
-  pub rule-held : (t : Rule) (z : Row) (head next : List ℕ) (k : ℕ) (r : Bool) → r ≡ chainHas next (ruleHit b (t .csd) (Rules.Named (t .number) (t .object) (t .sequence)) (rowOf z)) 512 (getD head k 0) → z ≡ zeroRow → k ≡ ruleBucket (t .csd) (t .number) (t .object) (t .sequence) → r ≡ ruleHeld b t head next
+  pub rule-held : (t : Rule) (z : Row) (head next : List ℕ) (k : ℕ) (r : Bool) → r ≡ chainHas next (ruleHit b (t .csd) (Rules.Named (t .number) (t .object) (t .sequence)) (rowOf z)) rulePlaces (getD head k 0) → z ≡ zeroRow → k ≡ ruleBucket (t .csd) (t .number) (t .object) (t .sequence) → r ≡ ruleHeld b t head next
   unfolding ruleHeld
   rule-held t z head next k r e f g = rw (e, f, g)
 
   -- Sixteen places whose bytes are all 0 are free.
-  pub rule-over : (i : ℕ) (r : Bool) (counts head next : List ℕ) → r ≡ blockFree b i 1536 15 → r ≡ true → i + 16 ≤ 512 → Going (ruleCsd b) (ruleChain b) 1152 512 (ruleRight b) i counts head next → Block (ruleCsd b) (ruleChain b) 1152 512 (ruleRight b) i true counts head next
+  pub rule-over : (i : ℕ) (r : Bool) (counts head next : List ℕ) → r ≡ blockFree b i ruleBase ruleWidth → r ≡ true → i + blockPlaces ≤ rulePlaces → Going (ruleCsd b) (ruleChain b) ruleHeads rulePlaces (ruleRight b) i counts head next → Block (ruleCsd b) (ruleChain b) ruleHeads rulePlaces (ruleRight b) i true counts head next
   unfolding blockFree ruleAt ruleZero allZero every ruleCsd ruleRight
   rule-over i r counts head next e f l g =
       let t = sym e ∙ f in
-      let z : zeroFrom b (1536 + i * 15) (16 * 15) ≡ true = search ands in
-      block-over (ruleCsd b) (ruleChain b) 1152 512 (λ k. ruleZero (ruleAt b k)) (ruleRest b) (ruleSame b) 64 (λ k. rule-nobody (ruleAt b k)) counts head next i g l
+      let z : zeroFrom b (ruleStart i) (blockPlaces * ruleWidth) ≡ true = search ands in
+      block-over (ruleCsd b) (ruleChain b) ruleHeads rulePlaces (λ k. ruleZero (ruleAt b k)) (ruleRest b) (ruleSame b) ruleQuota (λ k. rule-nobody (ruleAt b k)) counts head next i g l
       (λ k low high.
       ap (λ v. ruleZero (ruleFrom v))
-      (zero-numbers ruleWidths b (1536 + i * 15) (16 * 15) (ruleStart k) z (omega arith) (omega arith) ∙ numbers-zeros ruleWidths 0 (ruleStart k) 0))
+      (zero-numbers ruleWidths b (ruleStart i) (blockPlaces * ruleWidth) (ruleStart k) z (omega arith) (omega arith) ∙ numbers-zeros ruleWidths 0 (ruleStart k) 0))

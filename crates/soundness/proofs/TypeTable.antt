@@ -9,9 +9,11 @@ use Rattle.tables.specs.Below.{anyBelow}
 use Rattle.tables.specs.Count.{every}
 use Rattle.tables.proofs.Zeros.{numbers-zeros}
 use Rattle.tables.proofs.Counts.{ands}
+use Rattle.meaning.specs.Records.{typeQuota}
+use Rattle.chains.specs.Sizes.{blockPlaces, typeHeads}
 use Rattle.meaning.specs.Keys.{isType}
 use Rattle.meaning.specs.Sound.{typeFits}
-use Rattle.places.specs.Layout.{typeAt, typeStart, typeWidths, typeFrom}
+use Rattle.places.specs.Layout.{typeAt, typeStart, typeWidths, typeFrom, typePlaces, typeBase, typeWidth}
 use Rattle.places.specs.declared.RestrictionType.{RestrictionType}
 use Rattle.records.specs.Said.{typeOf}
 use Rattle.records.specs.Free.{allZero, typeZero}
@@ -27,7 +29,7 @@ use Rattle.chains.proofs.ChainPassing.{passed-free, passed-used}
 use Rattle.chains.proofs.Blocking.{zero-numbers, block-over}
 
 module _ (b : List ℕ) where
-  inside : (k : ℕ) → typeCsd b k ≤ 8 → typeChain b k < 576
+  inside : (k : ℕ) → typeCsd b k ≤ 8 → typeChain b k < typeHeads
   unfolding typeCsd typeChain
   inside k l = omega arith
 
@@ -45,33 +47,33 @@ module _ (b : List ℕ) where
   type-only k j e = of-key (typeAt b k .csd) (typeAt b k .number) (typeAt b k .object) j e
 
   -- What is found in the chains of the whole table.
-  pub type-found : (head next : List ℕ) (c n o : ℕ) → Chained (typeCsd b) (typeChain b) 576 128 head next 128 → (c ≡ 0 → ⊥) → c ≤ 8 → typeHeld b c n o head next ≡ anyBelow (typeHit b c (Types.Named n o)) 128
+  pub type-found : (head next : List ℕ) (c n o : ℕ) → Chained (typeCsd b) (typeChain b) typeHeads typePlaces head next typePlaces → (c ≡ 0 → ⊥) → c ≤ 8 → typeHeld b c n o head next ≡ anyBelow (typeHit b c (Types.Named n o)) typePlaces
   unfolding typeHeld
   type-found head next c n o m u l =
-      table-any (typeCsd b) (typeChain b) 576 128 head next m (typeHit b c (Types.Named n o)) c (typeBucket c n o) u (of-key c n o) (omega arith)
+      table-any (typeCsd b) (typeChain b) typeHeads typePlaces head next m (typeHit b c (Types.Named n o)) c (typeBucket c n o) u (of-key c n o) (omega arith)
 
-  pub type-free : (i : ℕ) (t : RestrictionType) (r : Bool) (counts head next : List ℕ) → r ≡ typeZero t → t .csd ≡ 0 → t ≡ typeAt b i → Ready (typeCsd b) (typeChain b) 576 128 i counts head next → Passed (typeCsd b) (typeChain b) 576 128 (typeRight b) i r counts head next
+  pub type-free : (i : ℕ) (t : RestrictionType) (r : Bool) (counts head next : List ℕ) → r ≡ typeZero t → t .csd ≡ 0 → t ≡ typeAt b i → Ready (typeCsd b) (typeChain b) typeHeads typePlaces i counts head next → Passed (typeCsd b) (typeChain b) typeHeads typePlaces (typeRight b) i r counts head next
   unfolding typeCsd typeRight
   type-free i t r counts head next er z e m =
-      passed-free (typeCsd b) (typeChain b) 576 128 (λ k. typeZero (typeAt b k)) (typeRest b) (typeSame b) 16 i r counts head next m
+      passed-free (typeCsd b) (typeChain b) typeHeads typePlaces (λ k. typeZero (typeAt b k)) (typeRest b) (typeSame b) typeQuota i r counts head next m
       (ap (λ x. x .csd) (sym e) ∙ z) (er ∙ ap typeZero e)
 
-  pub type-used : (i k : ℕ) (t : RestrictionType) (r : Bool) (counts head next counts′ head′ next′ : List ℕ) → Entered (t .csd) k i counts head next counts′ head′ next′ → k ≡ typeBucket (t .csd) (t .number) (t .object) → r ≡ rightBy (typeFits (typeOf t)) (typeHeld b (t .csd) (t .number) (t .object) head next) 16 (t .csd) counts → t ≡ typeAt b i → Ready (typeCsd b) (typeChain b) 576 128 i counts head next → (t .csd ≡ 0 → ⊥) → Passed (typeCsd b) (typeChain b) 576 128 (typeRight b) i r counts′ head′ next′
+  pub type-used : (i k : ℕ) (t : RestrictionType) (r : Bool) (counts head next counts′ head′ next′ : List ℕ) → Entered (t .csd) k i counts head next counts′ head′ next′ → k ≡ typeBucket (t .csd) (t .number) (t .object) → r ≡ rightBy (typeFits (typeOf t)) (typeHeld b (t .csd) (t .number) (t .object) head next) typeQuota (t .csd) counts → t ≡ typeAt b i → Ready (typeCsd b) (typeChain b) typeHeads typePlaces i counts head next → (t .csd ≡ 0 → ⊥) → Passed (typeCsd b) (typeChain b) typeHeads typePlaces (typeRight b) i r counts′ head′ next′
   unfolding typeHeld typeCsd typeChain typeSame typeRest typeRight
   type-used i k t r counts head next counts′ head′ next′ n ek er e m u =
-      passed-used (typeCsd b) (typeChain b) 576 128 (λ k. typeZero (typeAt b k)) (typeRest b) (typeSame b) 16
+      passed-used (typeCsd b) (typeChain b) typeHeads typePlaces (λ k. typeZero (typeAt b k)) (typeRest b) (typeSame b) typeQuota
       (λ k. type-nobody (typeAt b k)) inside type-only (omega arith) i (t .csd) k (typeFits (typeOf t)) (typeHeld b (t .csd) (t .number) (t .object) head next) r
       counts head next counts′ head′ next′ m n (λ z. u (ap (λ x. x .csd) e ∙ z)) (ap (λ x. x .csd) e)
       (ek ∙ ap (λ x. typeBucket (x .csd) (x .number) (x .object)) e) er (ap (λ x. typeHeld b (x .csd) (x .number) (x .object) head next) e)
       (λ l. ap (λ x. typeFits (typeOf x)) e)
 
   -- Sixteen places whose bytes are all 0 are free.
-  pub type-over : (i : ℕ) (r : Bool) (counts head next : List ℕ) → r ≡ blockFree b i 0 12 → r ≡ true → i + 16 ≤ 128 → Going (typeCsd b) (typeChain b) 576 128 (typeRight b) i counts head next → Block (typeCsd b) (typeChain b) 576 128 (typeRight b) i true counts head next
+  pub type-over : (i : ℕ) (r : Bool) (counts head next : List ℕ) → r ≡ blockFree b i typeBase typeWidth → r ≡ true → i + blockPlaces ≤ typePlaces → Going (typeCsd b) (typeChain b) typeHeads typePlaces (typeRight b) i counts head next → Block (typeCsd b) (typeChain b) typeHeads typePlaces (typeRight b) i true counts head next
   unfolding blockFree typeAt typeZero allZero every typeCsd typeRight
   type-over i r counts head next e f l g =
       let t = sym e ∙ f in
-      let z : zeroFrom b (0 + i * 12) (16 * 12) ≡ true = search ands in
-      block-over (typeCsd b) (typeChain b) 576 128 (λ k. typeZero (typeAt b k)) (typeRest b) (typeSame b) 16 (λ k. type-nobody (typeAt b k)) counts head next i g l
+      let z : zeroFrom b (typeStart i) (blockPlaces * typeWidth) ≡ true = search ands in
+      block-over (typeCsd b) (typeChain b) typeHeads typePlaces (λ k. typeZero (typeAt b k)) (typeRest b) (typeSame b) typeQuota (λ k. type-nobody (typeAt b k)) counts head next i g l
       (λ k low high.
       ap (λ v. typeZero (typeFrom v))
-      (zero-numbers typeWidths b (0 + i * 12) (16 * 12) (typeStart k) z (omega arith) (omega arith) ∙ numbers-zeros typeWidths 0 (typeStart k) 0))
+      (zero-numbers typeWidths b (typeStart i) (blockPlaces * typeWidth) (typeStart k) z (omega arith) (omega arith) ∙ numbers-zeros typeWidths 0 (typeStart k) 0))

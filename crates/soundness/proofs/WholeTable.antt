@@ -2,21 +2,22 @@
 use Prim.Native.Nat.{ℕ, _/_}
 use mathlib.Core.Path.{_≡_, refl, sym, ap, ap₂, _∙_}
 use mathlib.Core.Bool.{Bool, true, false, _&&_, _||_}
-use mathlib.Core.List.{List, [], _∷_}
+use mathlib.Core.List.{List}
 use lib.Dec.{eqb, leb}
 use lib.ListN.{length}
 use borrow.Author.Tests.{eqb-true, eq-eqb}
 use Rattle.tables.specs.Count.{count, has, countBelow, allBelow}
-use Rattle.tables.proofs.Counts.{ands, both}
+use Rattle.tables.proofs.Counts.{ands}
 use Rattle.tables.proofs.Lone.{count-lone}
 use Rattle.tables.proofs.Room.{lone-length}
 use Rattle.tables.proofs.Below.{has-lone}
 use Rattle.tables.proofs.Each.{all-same}
+use Rattle.meaning.specs.Records.{typeQuota, ruleQuota, rowQuota, periodQuota}
 use Rattle.meaning.specs.Fields.{within}
 use Rattle.meaning.proofs.SameLists.{same-self, same-back}
 use Rattle.meaning.specs.Keys.{isType, isRule, ofRule, isRow, clash}
 use Rattle.meaning.specs.Sound.{daysFit, typeFits, ruleFits, rowFits, periodFits, fillsRule, goodType, goodRule, goodRow, goodPeriod}
-use Rattle.places.specs.Layout.{typeAt, ruleAt, rowAt, periodAt}
+use Rattle.places.specs.Layout.{typeAt, ruleAt, rowAt, periodAt, typePlaces, rulePlaces, rowPlaces, periodPlaces}
 use Rattle.records.specs.Said.{typeOf, ruleOf, rowOf, periodOf}
 use Rattle.records.specs.Free.{typeZero, ruleZero, rowZero, periodZero}
 use Rattle.records.specs.Asks.{typeMeets, ruleMeets, rowMeets, periodMeets}
@@ -64,18 +65,18 @@ module _ (b : List ℕ) where
   unfolding typeSame typeHit typeMeets isType typeOf
   type-self k e = rw (eqb-self (typeAt b k .csd), eqb-self (typeAt b k .number), eqb-self (typeAt b k .object))
 
-  pub types-whole : allBelow (typeOk b) 128 ≡ allBelow (typeRight b) 128
+  pub types-whole : allBelow (typeOk b) typePlaces ≡ allBelow (typeRight b) typePlaces
   unfolding typeOk heldType goodType typesOf typeSame typeHit typeMeets typeOf typeCsd typeRest typeRight
   types-whole =
-      all-same (typeOk b) (whole (typeCsd b) (λ k. typeZero (typeAt b k)) (typeRest b) (typeSame b) 16 128) 128
+      all-same (typeOk b) (whole (typeCsd b) (λ k. typeZero (typeAt b k)) (typeRest b) (typeSame b) typeQuota typePlaces) typePlaces
       (λ k.
       ap (λ x. typeZero (typeAt b k) || (within 1 8 (typeAt b k .csd) && x))
       (one-rest (typeFits (typeOf (typeAt b k))) (leb (count (isType (typeAt b k .number) (typeAt b k .object)) (typesOf (typeAt b k .csd) b)) 1)
-      (leb (length (typesOf (typeAt b k .csd) b)) 16)
-      ∙ ap₂ (λ m n. typeFits (typeOf (typeAt b k)) && (leb m 1 && leb n 16))
-      (count-lone (λ r. r .csd) typeOf (typeAt b k .csd) (isType (typeAt b k .number) (typeAt b k .object)) (typeAt b) 128)
-      (sym (lone-length (λ r. r .csd) typeOf (typeAt b) 128 (typeAt b k .csd)))))
-      ∙ pairs-earlier (typeCsd b) (λ k. typeZero (typeAt b k)) (typeRest b) (typeSame b) 16 128 (λ k. type-nobody (typeAt b k)) type-back
+      (leb (length (typesOf (typeAt b k .csd) b)) typeQuota)
+      ∙ ap₂ (λ m n. typeFits (typeOf (typeAt b k)) && (leb m 1 && leb n typeQuota))
+      (count-lone (λ r. r .csd) typeOf (typeAt b k .csd) (isType (typeAt b k .number) (typeAt b k .object)) (typeAt b) typePlaces)
+      (sym (lone-length (λ r. r .csd) typeOf (typeAt b) typePlaces (typeAt b k .csd)))))
+      ∙ pairs-earlier (typeCsd b) (λ k. typeZero (typeAt b k)) (typeRest b) (typeSame b) typeQuota typePlaces (λ k. type-nobody (typeAt b k)) type-back
       (λ k j e. type-only b k j e .0) type-self
 
   rule-back : (k j : ℕ) → ruleSame b k j ≡ true → ruleSame b j k ≡ true
@@ -93,21 +94,21 @@ module _ (b : List ℕ) where
   rule-self k e =
       rw (eqb-self (ruleAt b k .csd), eqb-self (ruleAt b k .sequence), eqb-self (ruleAt b k .number), eqb-self (ruleAt b k .object))
 
-  pub rules-whole : allBelow (ruleOk b) 512 ≡ allBelow (ruleRight b) 512
+  pub rules-whole : allBelow (ruleOk b) rulePlaces ≡ allBelow (ruleRight b) rulePlaces
   unfolding ruleOk heldRule goodRule rulesOf typesOf ruleSame typeHit typeMeets ruleHit ruleMeets ruleOf ruleCsd ruleRest ruleRight
   rules-whole =
-      all-same (ruleOk b) (whole (ruleCsd b) (λ k. ruleZero (ruleAt b k)) (ruleRest b) (ruleSame b) 64 512) 512
+      all-same (ruleOk b) (whole (ruleCsd b) (λ k. ruleZero (ruleAt b k)) (ruleRest b) (ruleSame b) ruleQuota rulePlaces) rulePlaces
       (λ k.
       let r = ruleAt b k in
       ap (λ x. ruleZero (ruleAt b k) || (within 1 8 (ruleAt b k .csd) && x))
       (two-rests (ruleFits (ruleOf r)) (leb (count (isRule (r .number) (r .object) (r .sequence)) (rulesOf (r .csd) b)) 1)
-      (has (isType (r .number) (r .object)) (typesOf (r .csd) b)) (leb (length (rulesOf (r .csd) b)) 64)
-      ∙ ap₂ (λ h m. (ruleFits (ruleOf (ruleAt b k)) && h) && (leb m 1 && leb (length (rulesOf (ruleAt b k .csd) b)) 64))
-      (has-lone (λ r. r .csd) typeOf (r .csd) (typeAt b) (isType (r .number) (r .object)) 128)
-      (count-lone (λ r. r .csd) ruleOf (r .csd) (isRule (r .number) (r .object) (r .sequence)) (ruleAt b) 512)
-      ∙ ap (λ n. (ruleRest b k) && (leb (countBelow (ruleSame b k) 512) 1 && leb n 64))
-      (sym (lone-length (λ r. r .csd) ruleOf (ruleAt b) 512 (r .csd)))))
-      ∙ pairs-earlier (ruleCsd b) (λ k. ruleZero (ruleAt b k)) (ruleRest b) (ruleSame b) 64 512 (λ k. rule-nobody (ruleAt b k)) rule-back
+      (has (isType (r .number) (r .object)) (typesOf (r .csd) b)) (leb (length (rulesOf (r .csd) b)) ruleQuota)
+      ∙ ap₂ (λ h m. (ruleFits (ruleOf (ruleAt b k)) && h) && (leb m 1 && leb (length (rulesOf (ruleAt b k .csd) b)) ruleQuota))
+      (has-lone (λ r. r .csd) typeOf (r .csd) (typeAt b) (isType (r .number) (r .object)) typePlaces)
+      (count-lone (λ r. r .csd) ruleOf (r .csd) (isRule (r .number) (r .object) (r .sequence)) (ruleAt b) rulePlaces)
+      ∙ ap (λ n. (ruleRest b k) && (leb (countBelow (ruleSame b k) rulePlaces) 1 && leb n ruleQuota))
+      (sym (lone-length (λ r. r .csd) ruleOf (ruleAt b) rulePlaces (r .csd)))))
+      ∙ pairs-earlier (ruleCsd b) (λ k. ruleZero (ruleAt b k)) (ruleRest b) (ruleSame b) ruleQuota rulePlaces (λ k. rule-nobody (ruleAt b k)) rule-back
       (λ k j e. rule-only b k j e .0) rule-self
 
   row-back : (k j : ℕ) → rowSame b k j ≡ true → rowSame b j k ≡ true
@@ -132,21 +133,21 @@ module _ (b : List ℕ) where
         same-self (rowAt b k .values),
       )
 
-  pub rows-whole : allBelow (rowOk b) 1024 ≡ allBelow (rowRight b) 1024
+  pub rows-whole : allBelow (rowOk b) rowPlaces ≡ allBelow (rowRight b) rowPlaces
   unfolding rowOk heldRow goodRow rowsOf rulesOf rowSame ruleHit ruleMeets rowHit rowMeets rowOf rowCsd rowRest rowRight
   rows-whole =
-      all-same (rowOk b) (whole (rowCsd b) (λ k. rowZero (rowAt b k)) (rowRest b) (rowSame b) 128 1024) 1024
+      all-same (rowOk b) (whole (rowCsd b) (λ k. rowZero (rowAt b k)) (rowRest b) (rowSame b) rowQuota rowPlaces) rowPlaces
       (λ k.
       let r = rowAt b k in
       ap (λ x. rowZero (rowAt b k) || (within 1 8 (rowAt b k .csd) && x))
       (two-rests (rowFits (rowOf r)) (leb (count (isRow (rowOf r)) (rowsOf (r .csd) b)) 1) (has (fillsRule (rowOf r)) (rulesOf (r .csd) b))
-      (leb (length (rowsOf (r .csd) b)) 128)
-      ∙ ap₂ (λ h m. (rowFits (rowOf (rowAt b k)) && h) && (leb m 1 && leb (length (rowsOf (rowAt b k .csd) b)) 128))
-      (has-lone (λ r. r .csd) ruleOf (r .csd) (ruleAt b) (fillsRule (rowOf r)) 512)
-      (count-lone (λ r. r .csd) rowOf (r .csd) (isRow (rowOf r)) (rowAt b) 1024)
-      ∙ ap (λ n. (rowRest b k) && (leb (countBelow (rowSame b k) 1024) 1 && leb n 128))
-      (sym (lone-length (λ r. r .csd) rowOf (rowAt b) 1024 (r .csd)))))
-      ∙ pairs-earlier (rowCsd b) (λ k. rowZero (rowAt b k)) (rowRest b) (rowSame b) 128 1024 (λ k. row-nobody (rowAt b k)) row-back
+      (leb (length (rowsOf (r .csd) b)) rowQuota)
+      ∙ ap₂ (λ h m. (rowFits (rowOf (rowAt b k)) && h) && (leb m 1 && leb (length (rowsOf (rowAt b k .csd) b)) rowQuota))
+      (has-lone (λ r. r .csd) ruleOf (r .csd) (ruleAt b) (fillsRule (rowOf r)) rulePlaces)
+      (count-lone (λ r. r .csd) rowOf (r .csd) (isRow (rowOf r)) (rowAt b) rowPlaces)
+      ∙ ap (λ n. (rowRest b k) && (leb (countBelow (rowSame b k) rowPlaces) 1 && leb n rowQuota))
+      (sym (lone-length (λ r. r .csd) rowOf (rowAt b) rowPlaces (r .csd)))))
+      ∙ pairs-earlier (rowCsd b) (λ k. rowZero (rowAt b k)) (rowRest b) (rowSame b) rowQuota rowPlaces (λ k. row-nobody (rowAt b k)) row-back
       (λ k j e. row-only b k j e .0) row-self
 
   period-back : (k j : ℕ) → periodSame b k j ≡ true → periodSame b j k ≡ true
@@ -176,16 +177,16 @@ module _ (b : List ℕ) where
         days,
       )
 
-  pub periods-whole : allBelow (periodOk b) 1024 ≡ allBelow (periodRight b) 1024
+  pub periods-whole : allBelow (periodOk b) periodPlaces ≡ allBelow (periodRight b) periodPlaces
   unfolding periodOk heldPeriod goodPeriod periodsOf periodSame periodHit periodMeets periodCsd periodRest periodRight
   periods-whole =
-      all-same (periodOk b) (whole (periodCsd b) (λ k. periodZero (periodAt b k)) (periodRest b) (periodSame b) 128 1024) 1024
+      all-same (periodOk b) (whole (periodCsd b) (λ k. periodZero (periodAt b k)) (periodRest b) (periodSame b) periodQuota periodPlaces) periodPlaces
       (λ k.
       ap (λ x. periodZero (periodAt b k) || (within 1 8 (periodAt b k .csd) && x))
       (one-rest (periodFits (periodOf (periodAt b k))) (leb (count (clash (periodOf (periodAt b k))) (periodsOf (periodAt b k .csd) b)) 1)
-      (leb (length (periodsOf (periodAt b k .csd) b)) 128)
-      ∙ ap₂ (λ m n. periodFits (periodOf (periodAt b k)) && (leb m 1 && leb n 128))
-      (count-lone (λ r. r .csd) periodOf (periodAt b k .csd) (clash (periodOf (periodAt b k))) (periodAt b) 1024)
-      (sym (lone-length (λ r. r .csd) periodOf (periodAt b) 1024 (periodAt b k .csd)))))
-      ∙ pairs-earlier (periodCsd b) (λ k. periodZero (periodAt b k)) (periodRest b) (periodSame b) 128 1024 (λ k. period-nobody (periodAt b k)) period-back
+      (leb (length (periodsOf (periodAt b k .csd) b)) periodQuota)
+      ∙ ap₂ (λ m n. periodFits (periodOf (periodAt b k)) && (leb m 1 && leb n periodQuota))
+      (count-lone (λ r. r .csd) periodOf (periodAt b k .csd) (clash (periodOf (periodAt b k))) (periodAt b) periodPlaces)
+      (sym (lone-length (λ r. r .csd) periodOf (periodAt b) periodPlaces (periodAt b k .csd)))))
+      ∙ pairs-earlier (periodCsd b) (λ k. periodZero (periodAt b k)) (periodRest b) (periodSame b) periodQuota periodPlaces (λ k. period-nobody (periodAt b k)) period-back
       (λ k j e. period-only b k j e .0) period-self

@@ -7,8 +7,10 @@ use mathlib.Core.List.{List}
 use lib.ListN.{getD}
 use Rattle.tables.specs.Count.{allBelow}
 use Rattle.tables.specs.Below.{anyBelow}
+use Rattle.meaning.specs.Records.{typeQuota, ruleQuota, rowQuota, periodQuota}
+use Rattle.chains.specs.Sizes.{ruleHeads, typeBuckets, ruleBuckets, rowBuckets, periodBuckets}
 use Rattle.meaning.specs.Sound.{typeFits, ruleFits, rowFits, periodFits}
-use Rattle.places.specs.Layout.{typeAt, ruleAt, rowAt, periodAt, zeroRow}
+use Rattle.places.specs.Layout.{typeAt, ruleAt, rowAt, periodAt, zeroRow, typePlaces, rulePlaces, rowPlaces, periodPlaces}
 use Rattle.places.specs.declared.Rule.{Rule}
 use Rattle.places.specs.declared.Row.{Row}
 use Rattle.places.specs.declared.Period.{Period}
@@ -21,13 +23,17 @@ use Rattle.records.specs.declared.PeriodAsk.the-variants as Periods
 use Rattle.book.specs.Places.{typeHit, ruleHit, rowHit, periodHit}
 use Rattle.chains.specs.Chains.{chainHas, right, Chained}
 
--- ---- buckets: 64, 128, 256 and 256 of each depository. 251 is prime, so that round numbers do not share buckets
+-- ---- buckets: each owner has its own, and the record decides which of them
+
+-- the greatest prime below the buckets of rows and of periods, so that round numbers do not share buckets
+abbrev pub bucketPrime : ℕ
+bucketPrime = 251
 
 abbrev pub typeBucket : ℕ → ℕ → ℕ → ℕ
-typeBucket csd number object = csd * 64 + (number + object * 32) % 64
+typeBucket csd number object = csd * typeBuckets + (number + object * 32) % typeBuckets
 
 abbrev pub ruleBucket : ℕ → ℕ → ℕ → ℕ → ℕ
-ruleBucket csd number object sequence = csd * 128 + (number * 29 + object * 64 + sequence) % 128
+ruleBucket csd number object sequence = csd * ruleBuckets + (number * 29 + object * 64 + sequence) % ruleBuckets
 
 unfoldable pub valuesMixed : List ℕ → ℕ
 valuesMixed v =
@@ -36,32 +42,32 @@ valuesMixed v =
 
 unfoldable pub rowBucket : Row → ℕ
 unfolding valuesMixed
-rowBucket t = t .csd * 256 + (t .number * 29 + t .object * 64 + t .sequence + valuesMixed (t .values)) % 251
+rowBucket t = t .csd * rowBuckets + (t .number * 29 + t .object * 64 + t .sequence + valuesMixed (t .values)) % bucketPrime
 
 abbrev pub periodBucket : Period → ℕ
-periodBucket t = t .csd * 256 + (t .number + t .kind * 85 + t .code / 100 * 37) % 251
+periodBucket t = t .csd * periodBuckets + (t .number + t .kind * 85 + t .code / 100 * 37) % bucketPrime
 
 -- ---- what the chains of a table have: a record of that key, the row's rule, the same row, a period that clashes
 
 unfoldable pub typeHeld : List ℕ → ℕ → ℕ → ℕ → List ℕ → List ℕ → Bool
-typeHeld b csd number object head next = chainHas next (typeHit b csd (Types.Named number object)) 128 (getD head (typeBucket csd number object) 0)
+typeHeld b csd number object head next = chainHas next (typeHit b csd (Types.Named number object)) typePlaces (getD head (typeBucket csd number object) 0)
 
 unfoldable pub ruleHeld : List ℕ → Rule → List ℕ → List ℕ → Bool
 ruleHeld b t head next =
-    chainHas next (ruleHit b (t .csd) (Rules.Named (t .number) (t .object) (t .sequence)) (rowOf zeroRow)) 512
+    chainHas next (ruleHit b (t .csd) (Rules.Named (t .number) (t .object) (t .sequence)) (rowOf zeroRow)) rulePlaces
     (getD head (ruleBucket (t .csd) (t .number) (t .object) (t .sequence)) 0)
 
 unfoldable pub ruleFilled : List ℕ → Row → List ℕ → List ℕ → Bool
 ruleFilled b t head next =
-    chainHas next (ruleHit b (t .csd) Rules.Fills (rowOf t)) 512
+    chainHas next (ruleHit b (t .csd) Rules.Fills (rowOf t)) rulePlaces
     (getD head (ruleBucket (t .csd) (t .number) (t .object) (t .sequence)) 0)
 
 unfoldable pub rowHeld : List ℕ → Row → List ℕ → List ℕ → Bool
 unfolding rowBucket
-rowHeld b t head next = chainHas next (rowHit b (t .csd) Rows.Same (rowOf t)) 1024 (getD head (rowBucket t) 0)
+rowHeld b t head next = chainHas next (rowHit b (t .csd) Rows.Same (rowOf t)) rowPlaces (getD head (rowBucket t) 0)
 
 unfoldable pub periodHeld : List ℕ → Period → List ℕ → List ℕ → Bool
-periodHeld b t head next = chainHas next (periodHit b (t .csd) (Periods.Clash t)) 1024 (getD head (periodBucket t) 0)
+periodHeld b t head next = chainHas next (periodHit b (t .csd) (Periods.Clash t)) periodPlaces (getD head (periodBucket t) 0)
 
 module _ (b : List ℕ) where
   -- ---- types
@@ -80,7 +86,7 @@ module _ (b : List ℕ) where
   typeRest k = typeFits (typeOf (typeAt b k))
 
   unfoldable pub typeRight : ℕ → Bool
-  typeRight = right typeCsd (λ k. typeZero (typeAt b k)) typeRest typeSame 16
+  typeRight = right typeCsd (λ k. typeZero (typeAt b k)) typeRest typeSame typeQuota
 
   -- ---- rules
 
@@ -98,10 +104,10 @@ module _ (b : List ℕ) where
   unfoldable pub ruleRest : ℕ → Bool
   ruleRest k =
       ruleFits (ruleOf (ruleAt b k))
-      && anyBelow (typeHit b (ruleAt b k .csd) (Types.Named (ruleAt b k .number) (ruleAt b k .object))) 128
+      && anyBelow (typeHit b (ruleAt b k .csd) (Types.Named (ruleAt b k .number) (ruleAt b k .object))) typePlaces
 
   unfoldable pub ruleRight : ℕ → Bool
-  ruleRight = right ruleCsd (λ k. ruleZero (ruleAt b k)) ruleRest ruleSame 64
+  ruleRight = right ruleCsd (λ k. ruleZero (ruleAt b k)) ruleRest ruleSame ruleQuota
 
   -- ---- rows
 
@@ -117,10 +123,10 @@ module _ (b : List ℕ) where
 
   -- its range, and that it has its rule, whose criteria it fills
   unfoldable pub rowRest : ℕ → Bool
-  rowRest k = rowFits (rowOf (rowAt b k)) && anyBelow (ruleHit b (rowAt b k .csd) Rules.Fills (rowOf (rowAt b k))) 512
+  rowRest k = rowFits (rowOf (rowAt b k)) && anyBelow (ruleHit b (rowAt b k .csd) Rules.Fills (rowOf (rowAt b k))) rulePlaces
 
   unfoldable pub rowRight : ℕ → Bool
-  rowRight = right rowCsd (λ k. rowZero (rowAt b k)) rowRest rowSame 128
+  rowRight = right rowCsd (λ k. rowZero (rowAt b k)) rowRest rowSame rowQuota
 
   -- ---- periods
 
@@ -138,17 +144,17 @@ module _ (b : List ℕ) where
   periodRest k = periodFits (periodOf (periodAt b k))
 
   unfoldable pub periodRight : ℕ → Bool
-  periodRight = right periodCsd (λ k. periodZero (periodAt b k)) periodRest periodSame 128
+  periodRight = right periodCsd (λ k. periodZero (periodAt b k)) periodRest periodSame periodQuota
 
   -- ---- types and rules, with the rules' chains where all are right; and rows
 
   unfoldable pub rulesSound : Bool
-  rulesSound = allBelow typeRight 128 && allBelow ruleRight 512
+  rulesSound = allBelow typeRight typePlaces && allBelow ruleRight rulePlaces
 
   unfoldable pub rowsSound : Bool
   unfolding rulesSound
-  rowsSound = rulesSound && allBelow rowRight 1024
+  rowsSound = rulesSound && allBelow rowRight rowPlaces
 
 pub record RulesSound (b : List ℕ) (answer : Bool) (head next : List ℕ) : Type 0 where
   pub answered : answer ≡ rulesSound b
-  pub chained : answer ≡ true → Chained (ruleCsd b) (ruleChain b) 1152 512 head next 512
+  pub chained : answer ≡ true → Chained (ruleCsd b) (ruleChain b) ruleHeads rulePlaces head next rulePlaces

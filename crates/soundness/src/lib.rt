@@ -5,32 +5,45 @@ ghost use mathlib.Core.Bool.{_&&_};
 ghost use Prim.Native.Nat.{_+_, _*_, _≤_};
 ghost use lib.ListN.{getD};
 ghost use Rattle.tables.specs.Count.{allBelow};
+ghost use Rattle.meaning.specs.Records.{typeQuota, ruleQuota, rowQuota, periodQuota};
+ghost use Rattle.chains.specs.Sizes.{blockPlaces, typeHeads, ruleHeads, rowHeads, periodHeads};
+ghost use Rattle.places.specs.Layout.{typePlaces, rulePlaces, rowPlaces, periodPlaces};
 ghost use Rattle.meaning.specs.Sound.{typeFits, ruleFits, rowFits, periodFits};
 ghost use Rattle.records.specs.Said.{typeOf, ruleOf, rowOf, periodOf};
 ghost use Rattle.book.specs.Sound.{sound};
 ghost use Rattle.book.specs.Places.{typeHit, ruleHit, rowHit, periodHit};
 ghost use Rattle.chains.specs.Chains.{chainHas, rightBy, Chained, Unchained, Ready, Passed, Going, Block, AllPassed};
 ghost use Rattle.soundness.specs.Tables.{typeBucket, ruleBucket, valuesMixed, rowBucket, periodBucket, typeHeld, ruleHeld, ruleFilled, rowHeld, periodHeld, typeCsd, ruleCsd, rowCsd, periodCsd, typeChain, ruleChain, rowChain, periodChain, typeRight, ruleRight, rowRight, periodRight, RulesSound, rowsSound};
+use basics::and;
+use basics::no;
 use book::period_is;
 use book::row_is;
 use book::rule_is;
 use book::type_is;
+use chains::BLOCK;
+use chains::PERIOD_BUCKETS;
+use chains::ROW_BUCKETS;
+use chains::RULE_BUCKETS;
+use chains::TYPE_BUCKETS;
 use chains::block_free;
 use chains::enter;
 use chains::follow;
-use chains::heads;
 use chains::look;
 use chains::no_counts;
-use chains::no_places;
+use chains::no_periods;
+use chains::no_rows;
 use chains::no_rules;
 use chains::no_types;
+use chains::period_heads;
 use chains::right;
+use chains::row_heads;
 use chains::rule_heads;
 use chains::type_heads;
 use places::Period;
 use places::RestrictionType;
 use places::Row;
 use places::Rule;
+use places::SIZE;
 use places::period_at;
 use places::row_at;
 use places::rule_at;
@@ -47,23 +60,21 @@ use records::PeriodAsk;
 use records::RowAsk;
 use records::RuleAsk;
 use records::TypeAsk;
-use records::and;
-use records::no;
 
-// The book's exact size (docs/LAYOUT.md).
-const SIZE: usize = 51200;
+// The greatest prime below the buckets of rows and of periods, so that round numbers do not share buckets.
+const BUCKET_PRIME: usize = 251;
 
 // ---- Types.
 
 fn type_bucket(csd: u8, number: u8, object: u8) -> usize
     ensures { λ r. ⌜ r ≡ typeBucket csd number object ⌝ }
 {
-    csd as usize * 64 + (number as usize + object as usize * 32) % 64
+    csd as usize * TYPE_BUCKETS + (number as usize + object as usize * 32) % TYPE_BUCKETS
 }
 
 // Whether the chain of the bucket k has a type of depository a that is as asked.
 fn chain_has_type(b: &[u8], head: &[u16], next: &[u16], k: usize, a: u8, q: TypeAsk) -> bool
-    ensures { λ r. ⌜ r ≡ chainHas (now (next .entry)) (typeHit (now (b .entry)) a q) 128 (getD (now (head .entry)) k 0) ⌝ }
+    ensures { λ r. ⌜ r ≡ chainHas (now (next .entry)) (typeHit (now (b .entry)) a q) typePlaces (getD (now (head .entry)) k 0) ⌝ }
 {
     let mut j = look(head, k);
     for s in 0..RestrictionType::PLACES {
@@ -88,7 +99,7 @@ fn type_held(b: &[u8], csd: u8, number: u8, object: u8, head: &[u16], next: &[u1
 
 // Whether a type is right beside those before it: its range, its key not held, its depository's quota not reached.
 fn type_right(b: &[u8], t: RestrictionType, counts: &[u16], head: &[u16], next: &[u16]) -> bool
-    ensures { λ r. ⌜ r ≡ rightBy (typeFits (typeOf t)) (typeHeld (now (b .entry)) (t .csd) (t .number) (t .object) (now (head .entry)) (now (next .entry))) 16 (t .csd) (now (counts .entry)) ⌝ }
+    ensures { λ r. ⌜ r ≡ rightBy (typeFits (typeOf t)) (typeHeld (now (b .entry)) (t .csd) (t .number) (t .object) (now (head .entry)) (now (next .entry))) typeQuota (t .csd) (now (counts .entry)) ⌝ }
 {
     let held = type_held(b, t.csd, t.number, t.object, head, next);
     right(t.csd, type_fits(t), held, counts, RestrictionType::QUOTA)
@@ -96,8 +107,8 @@ fn type_right(b: &[u8], t: RestrictionType, counts: &[u16], head: &[u16], next: 
 
 // Tests the place i beside those before it, and enters it.
 fn pass_type(b: &[u8], i: u16, counts: &mut [u16], head: &mut [u16], next: &mut [u16]) -> bool
-    requires { ⌜ Ready (typeCsd (now b)) (typeChain (now b)) 576 128 i (now counts) (now head) (now next) ⌝ }
-    ensures { λ r. ⌜ Passed (typeCsd (now (b .entry))) (typeChain (now (b .entry))) 576 128 (typeRight (now (b .entry))) i r (now (counts .exit)) (now (head .exit)) (now (next .exit)) ⌝ }
+    requires { ⌜ Ready (typeCsd (now b)) (typeChain (now b)) typeHeads typePlaces i (now counts) (now head) (now next) ⌝ }
+    ensures { λ r. ⌜ Passed (typeCsd (now (b .entry))) (typeChain (now (b .entry))) typeHeads typePlaces (typeRight (now (b .entry))) i r (now (counts .exit)) (now (head .exit)) (now (next .exit)) ⌝ }
 {
     let t = type_at(b, i);
     if t.csd == 0 {
@@ -115,16 +126,16 @@ fn pass_type(b: &[u8], i: u16, counts: &mut [u16], head: &mut [u16], next: &mut 
     good
 }
 
-// Sixteen places from one on; at once where they are all zero.
+// A block of places from one on; at once where they are all zero.
 fn pass_types(b: &[u8], from: u16, counts: &mut [u16], head: &mut [u16], next: &mut [u16]) -> bool
-    requires { ⌜ from + 16 ≤ 128 ⌝ }
-    requires { ⌜ Going (typeCsd (now b)) (typeChain (now b)) 576 128 (typeRight (now b)) from (now counts) (now head) (now next) ⌝ }
-    ensures { λ r. ⌜ Block (typeCsd (now (b .entry))) (typeChain (now (b .entry))) 576 128 (typeRight (now (b .entry))) from r (now (counts .exit)) (now (head .exit)) (now (next .exit)) ⌝ }
+    requires { ⌜ from + blockPlaces ≤ typePlaces ⌝ }
+    requires { ⌜ Going (typeCsd (now b)) (typeChain (now b)) typeHeads typePlaces (typeRight (now b)) from (now counts) (now head) (now next) ⌝ }
+    ensures { λ r. ⌜ Block (typeCsd (now (b .entry))) (typeChain (now (b .entry))) typeHeads typePlaces (typeRight (now (b .entry))) from r (now (counts .exit)) (now (head .exit)) (now (next .exit)) ⌝ }
 {
-    if block_free(b, from, 0, 12) {
+    if block_free(b, from, RestrictionType::START, RestrictionType::WIDTH) {
         return true;
     }
-    for i in from..from + 16 {
+    for i in from..from + BLOCK {
         if no(pass_type(b, i, counts, head, next)) {
             return false;
         }
@@ -133,8 +144,8 @@ fn pass_types(b: &[u8], from: u16, counts: &mut [u16], head: &mut [u16], next: &
 }
 
 fn all_types(b: &[u8], head: &mut [u16], next: &mut [u16]) -> bool
-    requires { ⌜ Unchained 576 128 (now head) (now next) ⌝ }
-    ensures { λ r. ⌜ AllPassed (typeCsd (now (b .entry))) (typeChain (now (b .entry))) 576 128 (typeRight (now (b .entry))) r (now (head .exit)) (now (next .exit)) ⌝ }
+    requires { ⌜ Unchained typeHeads typePlaces (now head) (now next) ⌝ }
+    ensures { λ r. ⌜ AllPassed (typeCsd (now (b .entry))) (typeChain (now (b .entry))) typeHeads typePlaces (typeRight (now (b .entry))) r (now (head .exit)) (now (next .exit)) ⌝ }
 {
     let mut counts = no_counts();
     let mut i: u16 = 0;
@@ -142,7 +153,7 @@ fn all_types(b: &[u8], head: &mut [u16], next: &mut [u16]) -> bool
         if no(pass_types(b, i, &mut counts, head, next)) {
             return false;
         }
-        i += 16;
+        i += BLOCK;
     }
     true
 }
@@ -153,12 +164,12 @@ fn rule_bucket(csd: u8, number: u8, object: u8, sequence: u8) -> usize
     ensures { λ r. ⌜ r ≡ ruleBucket csd number object sequence ⌝ }
 {
     let within = number as usize * 29 + object as usize * 64 + sequence as usize;
-    csd as usize * 128 + within % 128
+    csd as usize * RULE_BUCKETS + within % RULE_BUCKETS
 }
 
 // Whether the chain of the bucket k has a rule of depository a that is as asked.
 fn chain_has_rule(b: &[u8], head: &[u16], next: &[u16], k: usize, a: u8, q: RuleAsk, w: Row) -> bool
-    ensures { λ r. ⌜ r ≡ chainHas (now (next .entry)) (ruleHit (now (b .entry)) a q (rowOf w)) 512 (getD (now (head .entry)) k 0) ⌝ }
+    ensures { λ r. ⌜ r ≡ chainHas (now (next .entry)) (ruleHit (now (b .entry)) a q (rowOf w)) rulePlaces (getD (now (head .entry)) k 0) ⌝ }
 {
     let mut j = look(head, k);
     for s in 0..Rule::PLACES {
@@ -200,7 +211,7 @@ fn rule_right(
     head: &[u16],
     next: &[u16],
 ) -> bool
-    ensures { λ r. ⌜ r ≡ rightBy (ruleFits (ruleOf t) && typeHeld (now (b .entry)) (t .csd) (t .number) (t .object) (now (starts .entry)) (now (links .entry))) (ruleHeld (now (b .entry)) t (now (head .entry)) (now (next .entry))) 64 (t .csd) (now (counts .entry)) ⌝ }
+    ensures { λ r. ⌜ r ≡ rightBy (ruleFits (ruleOf t) && typeHeld (now (b .entry)) (t .csd) (t .number) (t .object) (now (starts .entry)) (now (links .entry))) (ruleHeld (now (b .entry)) t (now (head .entry)) (now (next .entry))) ruleQuota (t .csd) (now (counts .entry)) ⌝ }
 {
     let typed = type_held(b, t.csd, t.number, t.object, starts, links);
     let held = rule_held(b, t, head, next);
@@ -217,9 +228,9 @@ fn pass_rule(
     head: &mut [u16],
     next: &mut [u16],
 ) -> bool
-    requires { ⌜ Chained (typeCsd (now b)) (typeChain (now b)) 576 128 (now starts) (now links) 128 ⌝ }
-    requires { ⌜ Ready (ruleCsd (now b)) (ruleChain (now b)) 1152 512 i (now counts) (now head) (now next) ⌝ }
-    ensures { λ r. ⌜ Passed (ruleCsd (now (b .entry))) (ruleChain (now (b .entry))) 1152 512 (ruleRight (now (b .entry))) i r (now (counts .exit)) (now (head .exit)) (now (next .exit)) ⌝ }
+    requires { ⌜ Chained (typeCsd (now b)) (typeChain (now b)) typeHeads typePlaces (now starts) (now links) typePlaces ⌝ }
+    requires { ⌜ Ready (ruleCsd (now b)) (ruleChain (now b)) ruleHeads rulePlaces i (now counts) (now head) (now next) ⌝ }
+    ensures { λ r. ⌜ Passed (ruleCsd (now (b .entry))) (ruleChain (now (b .entry))) ruleHeads rulePlaces (ruleRight (now (b .entry))) i r (now (counts .exit)) (now (head .exit)) (now (next .exit)) ⌝ }
 {
     let t = rule_at(b, i);
     if t.csd == 0 {
@@ -237,7 +248,7 @@ fn pass_rule(
     good
 }
 
-// Sixteen places from one on; at once where they are all zero.
+// A block of places from one on; at once where they are all zero.
 fn pass_rules(
     b: &[u8],
     from: u16,
@@ -247,15 +258,15 @@ fn pass_rules(
     head: &mut [u16],
     next: &mut [u16],
 ) -> bool
-    requires { ⌜ Chained (typeCsd (now b)) (typeChain (now b)) 576 128 (now starts) (now links) 128 ⌝ }
-    requires { ⌜ from + 16 ≤ 512 ⌝ }
-    requires { ⌜ Going (ruleCsd (now b)) (ruleChain (now b)) 1152 512 (ruleRight (now b)) from (now counts) (now head) (now next) ⌝ }
-    ensures { λ r. ⌜ Block (ruleCsd (now (b .entry))) (ruleChain (now (b .entry))) 1152 512 (ruleRight (now (b .entry))) from r (now (counts .exit)) (now (head .exit)) (now (next .exit)) ⌝ }
+    requires { ⌜ Chained (typeCsd (now b)) (typeChain (now b)) typeHeads typePlaces (now starts) (now links) typePlaces ⌝ }
+    requires { ⌜ from + blockPlaces ≤ rulePlaces ⌝ }
+    requires { ⌜ Going (ruleCsd (now b)) (ruleChain (now b)) ruleHeads rulePlaces (ruleRight (now b)) from (now counts) (now head) (now next) ⌝ }
+    ensures { λ r. ⌜ Block (ruleCsd (now (b .entry))) (ruleChain (now (b .entry))) ruleHeads rulePlaces (ruleRight (now (b .entry))) from r (now (counts .exit)) (now (head .exit)) (now (next .exit)) ⌝ }
 {
-    if block_free(b, from, 1536, 15) {
+    if block_free(b, from, Rule::START, Rule::WIDTH) {
         return true;
     }
-    for i in from..from + 16 {
+    for i in from..from + BLOCK {
         if no(pass_rule(b, i, starts, links, counts, head, next)) {
             return false;
         }
@@ -264,9 +275,9 @@ fn pass_rules(
 }
 
 fn all_rules(b: &[u8], starts: &[u16], links: &[u16], head: &mut [u16], next: &mut [u16]) -> bool
-    requires { ⌜ Chained (typeCsd (now b)) (typeChain (now b)) 576 128 (now starts) (now links) 128 ⌝ }
-    requires { ⌜ Unchained 1152 512 (now head) (now next) ⌝ }
-    ensures { λ r. ⌜ AllPassed (ruleCsd (now (b .entry))) (ruleChain (now (b .entry))) 1152 512 (ruleRight (now (b .entry))) r (now (head .exit)) (now (next .exit)) ⌝ }
+    requires { ⌜ Chained (typeCsd (now b)) (typeChain (now b)) typeHeads typePlaces (now starts) (now links) typePlaces ⌝ }
+    requires { ⌜ Unchained ruleHeads rulePlaces (now head) (now next) ⌝ }
+    ensures { λ r. ⌜ AllPassed (ruleCsd (now (b .entry))) (ruleChain (now (b .entry))) ruleHeads rulePlaces (ruleRight (now (b .entry))) r (now (head .exit)) (now (next .exit)) ⌝ }
 {
     let mut counts = no_counts();
     let mut i: u16 = 0;
@@ -274,7 +285,7 @@ fn all_rules(b: &[u8], starts: &[u16], links: &[u16], head: &mut [u16], next: &m
         if no(pass_rules(b, i, starts, links, &mut counts, head, next)) {
             return false;
         }
-        i += 16;
+        i += BLOCK;
     }
     true
 }
@@ -301,12 +312,12 @@ fn row_bucket(t: Row) -> usize
 {
     let v = t.values;
     let key = t.number as usize * 29 + t.object as usize * 64 + t.sequence as usize;
-    t.csd as usize * 256 + (key + values_mixed(v)) % 251
+    t.csd as usize * ROW_BUCKETS + (key + values_mixed(v)) % BUCKET_PRIME
 }
 
 // Whether the chain of the bucket k has a row of depository a that is as asked.
 fn chain_has_row(b: &[u8], head: &[u16], next: &[u16], k: usize, a: u8, q: RowAsk, w: Row) -> bool
-    ensures { λ r. ⌜ r ≡ chainHas (now (next .entry)) (rowHit (now (b .entry)) a q (rowOf w)) 1024 (getD (now (head .entry)) k 0) ⌝ }
+    ensures { λ r. ⌜ r ≡ chainHas (now (next .entry)) (rowHit (now (b .entry)) a q (rowOf w)) rowPlaces (getD (now (head .entry)) k 0) ⌝ }
 {
     let mut j = look(head, k);
     for s in 0..Row::PLACES {
@@ -339,7 +350,7 @@ fn row_right(
     head: &[u16],
     next: &[u16],
 ) -> bool
-    ensures { λ r. ⌜ r ≡ rightBy (rowFits (rowOf t) && ruleFilled (now (b .entry)) t (now (starts .entry)) (now (links .entry))) (rowHeld (now (b .entry)) t (now (head .entry)) (now (next .entry))) 128 (t .csd) (now (counts .entry)) ⌝ }
+    ensures { λ r. ⌜ r ≡ rightBy (rowFits (rowOf t) && ruleFilled (now (b .entry)) t (now (starts .entry)) (now (links .entry))) (rowHeld (now (b .entry)) t (now (head .entry)) (now (next .entry))) rowQuota (t .csd) (now (counts .entry)) ⌝ }
 {
     let ruled = rule_filled(b, t, starts, links);
     let held = row_held(b, t, head, next);
@@ -356,9 +367,9 @@ fn pass_row(
     head: &mut [u16],
     next: &mut [u16],
 ) -> bool
-    requires { ⌜ Chained (ruleCsd (now b)) (ruleChain (now b)) 1152 512 (now starts) (now links) 512 ⌝ }
-    requires { ⌜ Ready (rowCsd (now b)) (rowChain (now b)) 2304 1024 i (now counts) (now head) (now next) ⌝ }
-    ensures { λ r. ⌜ Passed (rowCsd (now (b .entry))) (rowChain (now (b .entry))) 2304 1024 (rowRight (now (b .entry))) i r (now (counts .exit)) (now (head .exit)) (now (next .exit)) ⌝ }
+    requires { ⌜ Chained (ruleCsd (now b)) (ruleChain (now b)) ruleHeads rulePlaces (now starts) (now links) rulePlaces ⌝ }
+    requires { ⌜ Ready (rowCsd (now b)) (rowChain (now b)) rowHeads rowPlaces i (now counts) (now head) (now next) ⌝ }
+    ensures { λ r. ⌜ Passed (rowCsd (now (b .entry))) (rowChain (now (b .entry))) rowHeads rowPlaces (rowRight (now (b .entry))) i r (now (counts .exit)) (now (head .exit)) (now (next .exit)) ⌝ }
 {
     let t = row_at(b, i);
     if t.csd == 0 {
@@ -369,7 +380,7 @@ fn pass_row(
     good
 }
 
-// Sixteen places from one on; at once where they are all zero.
+// A block of places from one on; at once where they are all zero.
 fn pass_rows(
     b: &[u8],
     from: u16,
@@ -379,15 +390,15 @@ fn pass_rows(
     head: &mut [u16],
     next: &mut [u16],
 ) -> bool
-    requires { ⌜ Chained (ruleCsd (now b)) (ruleChain (now b)) 1152 512 (now starts) (now links) 512 ⌝ }
-    requires { ⌜ from + 16 ≤ 1024 ⌝ }
-    requires { ⌜ Going (rowCsd (now b)) (rowChain (now b)) 2304 1024 (rowRight (now b)) from (now counts) (now head) (now next) ⌝ }
-    ensures { λ r. ⌜ Block (rowCsd (now (b .entry))) (rowChain (now (b .entry))) 2304 1024 (rowRight (now (b .entry))) from r (now (counts .exit)) (now (head .exit)) (now (next .exit)) ⌝ }
+    requires { ⌜ Chained (ruleCsd (now b)) (ruleChain (now b)) ruleHeads rulePlaces (now starts) (now links) rulePlaces ⌝ }
+    requires { ⌜ from + blockPlaces ≤ rowPlaces ⌝ }
+    requires { ⌜ Going (rowCsd (now b)) (rowChain (now b)) rowHeads rowPlaces (rowRight (now b)) from (now counts) (now head) (now next) ⌝ }
+    ensures { λ r. ⌜ Block (rowCsd (now (b .entry))) (rowChain (now (b .entry))) rowHeads rowPlaces (rowRight (now (b .entry))) from r (now (counts .exit)) (now (head .exit)) (now (next .exit)) ⌝ }
 {
-    if block_free(b, from, 9216, 26) {
+    if block_free(b, from, Row::START, Row::WIDTH) {
         return true;
     }
-    for i in from..from + 16 {
+    for i in from..from + BLOCK {
         if no(pass_row(b, i, starts, links, counts, head, next)) {
             return false;
         }
@@ -396,9 +407,9 @@ fn pass_rows(
 }
 
 fn all_rows(b: &[u8], starts: &[u16], links: &[u16], head: &mut [u16], next: &mut [u16]) -> bool
-    requires { ⌜ Chained (ruleCsd (now b)) (ruleChain (now b)) 1152 512 (now starts) (now links) 512 ⌝ }
-    requires { ⌜ Unchained 2304 1024 (now head) (now next) ⌝ }
-    ensures { λ r. ⌜ AllPassed (rowCsd (now (b .entry))) (rowChain (now (b .entry))) 2304 1024 (rowRight (now (b .entry))) r (now (head .exit)) (now (next .exit)) ⌝ }
+    requires { ⌜ Chained (ruleCsd (now b)) (ruleChain (now b)) ruleHeads rulePlaces (now starts) (now links) rulePlaces ⌝ }
+    requires { ⌜ Unchained rowHeads rowPlaces (now head) (now next) ⌝ }
+    ensures { λ r. ⌜ AllPassed (rowCsd (now (b .entry))) (rowChain (now (b .entry))) rowHeads rowPlaces (rowRight (now (b .entry))) r (now (head .exit)) (now (next .exit)) ⌝ }
 {
     let mut counts = no_counts();
     let mut i: u16 = 0;
@@ -406,7 +417,7 @@ fn all_rows(b: &[u8], starts: &[u16], links: &[u16], head: &mut [u16], next: &mu
         if no(pass_rows(b, i, starts, links, &mut counts, head, next)) {
             return false;
         }
-        i += 16;
+        i += BLOCK;
     }
     true
 }
@@ -418,12 +429,12 @@ fn period_bucket(t: Period) -> usize
 {
     let attribute = (t.code / 100) as usize;
     let of = t.number as usize + t.kind as usize * 85 + attribute * 37;
-    t.csd as usize * 256 + of % 251
+    t.csd as usize * PERIOD_BUCKETS + of % BUCKET_PRIME
 }
 
 // Whether the chain of the bucket k has a period of depository a that is as asked.
 fn chain_has_period(b: &[u8], head: &[u16], next: &[u16], k: usize, a: u8, q: PeriodAsk) -> bool
-    ensures { λ r. ⌜ r ≡ chainHas (now (next .entry)) (periodHit (now (b .entry)) a q) 1024 (getD (now (head .entry)) k 0) ⌝ }
+    ensures { λ r. ⌜ r ≡ chainHas (now (next .entry)) (periodHit (now (b .entry)) a q) periodPlaces (getD (now (head .entry)) k 0) ⌝ }
 {
     let mut j = look(head, k);
     for s in 0..Period::PLACES {
@@ -447,7 +458,7 @@ fn period_held(b: &[u8], t: Period, head: &[u16], next: &[u16]) -> bool
 }
 
 fn period_right(b: &[u8], t: Period, counts: &[u16], head: &[u16], next: &[u16]) -> bool
-    ensures { λ r. ⌜ r ≡ rightBy (periodFits (periodOf t)) (periodHeld (now (b .entry)) t (now (head .entry)) (now (next .entry))) 128 (t .csd) (now (counts .entry)) ⌝ }
+    ensures { λ r. ⌜ r ≡ rightBy (periodFits (periodOf t)) (periodHeld (now (b .entry)) t (now (head .entry)) (now (next .entry))) periodQuota (t .csd) (now (counts .entry)) ⌝ }
 {
     let held = period_held(b, t, head, next);
     right(t.csd, period_fits(t), held, counts, Period::QUOTA)
@@ -455,8 +466,8 @@ fn period_right(b: &[u8], t: Period, counts: &[u16], head: &[u16], next: &[u16])
 
 // Tests the place i beside those before it, and enters it.
 fn pass_period(b: &[u8], i: u16, counts: &mut [u16], head: &mut [u16], next: &mut [u16]) -> bool
-    requires { ⌜ Ready (periodCsd (now b)) (periodChain (now b)) 2304 1024 i (now counts) (now head) (now next) ⌝ }
-    ensures { λ r. ⌜ Passed (periodCsd (now (b .entry))) (periodChain (now (b .entry))) 2304 1024 (periodRight (now (b .entry))) i r (now (counts .exit)) (now (head .exit)) (now (next .exit)) ⌝ }
+    requires { ⌜ Ready (periodCsd (now b)) (periodChain (now b)) periodHeads periodPlaces i (now counts) (now head) (now next) ⌝ }
+    ensures { λ r. ⌜ Passed (periodCsd (now (b .entry))) (periodChain (now (b .entry))) periodHeads periodPlaces (periodRight (now (b .entry))) i r (now (counts .exit)) (now (head .exit)) (now (next .exit)) ⌝ }
 {
     let t = period_at(b, i);
     if t.csd == 0 {
@@ -467,16 +478,16 @@ fn pass_period(b: &[u8], i: u16, counts: &mut [u16], head: &mut [u16], next: &mu
     good
 }
 
-// Sixteen places from one on; at once where they are all zero.
+// A block of places from one on; at once where they are all zero.
 fn pass_periods(b: &[u8], from: u16, counts: &mut [u16], head: &mut [u16], next: &mut [u16]) -> bool
-    requires { ⌜ from + 16 ≤ 1024 ⌝ }
-    requires { ⌜ Going (periodCsd (now b)) (periodChain (now b)) 2304 1024 (periodRight (now b)) from (now counts) (now head) (now next) ⌝ }
-    ensures { λ r. ⌜ Block (periodCsd (now (b .entry))) (periodChain (now (b .entry))) 2304 1024 (periodRight (now (b .entry))) from r (now (counts .exit)) (now (head .exit)) (now (next .exit)) ⌝ }
+    requires { ⌜ from + blockPlaces ≤ periodPlaces ⌝ }
+    requires { ⌜ Going (periodCsd (now b)) (periodChain (now b)) periodHeads periodPlaces (periodRight (now b)) from (now counts) (now head) (now next) ⌝ }
+    ensures { λ r. ⌜ Block (periodCsd (now (b .entry))) (periodChain (now (b .entry))) periodHeads periodPlaces (periodRight (now (b .entry))) from r (now (counts .exit)) (now (head .exit)) (now (next .exit)) ⌝ }
 {
-    if block_free(b, from, 35840, 15) {
+    if block_free(b, from, Period::START, Period::WIDTH) {
         return true;
     }
-    for i in from..from + 16 {
+    for i in from..from + BLOCK {
         if no(pass_period(b, i, counts, head, next)) {
             return false;
         }
@@ -485,8 +496,8 @@ fn pass_periods(b: &[u8], from: u16, counts: &mut [u16], head: &mut [u16], next:
 }
 
 fn all_periods(b: &[u8], head: &mut [u16], next: &mut [u16]) -> bool
-    requires { ⌜ Unchained 2304 1024 (now head) (now next) ⌝ }
-    ensures { λ r. ⌜ AllPassed (periodCsd (now (b .entry))) (periodChain (now (b .entry))) 2304 1024 (periodRight (now (b .entry))) r (now (head .exit)) (now (next .exit)) ⌝ }
+    requires { ⌜ Unchained periodHeads periodPlaces (now head) (now next) ⌝ }
+    ensures { λ r. ⌜ AllPassed (periodCsd (now (b .entry))) (periodChain (now (b .entry))) periodHeads periodPlaces (periodRight (now (b .entry))) r (now (head .exit)) (now (next .exit)) ⌝ }
 {
     let mut counts = no_counts();
     let mut i: u16 = 0;
@@ -494,7 +505,7 @@ fn all_periods(b: &[u8], head: &mut [u16], next: &mut [u16]) -> bool
         if no(pass_periods(b, i, &mut counts, head, next)) {
             return false;
         }
-        i += 16;
+        i += BLOCK;
     }
     true
 }
@@ -503,7 +514,7 @@ fn all_periods(b: &[u8], head: &mut [u16], next: &mut [u16]) -> bool
 
 // Types and rules; the rules' chains are left to the caller.
 fn sound_rules(b: &[u8], head: &mut [u16], next: &mut [u16]) -> bool
-    requires { ⌜ Unchained 1152 512 (now head) (now next) ⌝ }
+    requires { ⌜ Unchained ruleHeads rulePlaces (now head) (now next) ⌝ }
     ensures { λ r. ⌜ RulesSound (now (b .entry)) r (now (head .exit)) (now (next .exit)) ⌝ }
 {
     let mut starts = type_heads();
@@ -523,16 +534,16 @@ fn sound_rows(b: &[u8]) -> bool
     if no(sound_rules(b, &mut starts, &mut links)) {
         return false;
     }
-    let mut head = heads();
-    let mut next = no_places();
+    let mut head = row_heads();
+    let mut next = no_rows();
     all_rows(b, &starts, &links, &mut head, &mut next)
 }
 
 fn sound_periods(b: &[u8]) -> bool
-    ensures { λ r. ⌜ r ≡ allBelow (periodRight (now (b .entry))) 1024 ⌝ }
+    ensures { λ r. ⌜ r ≡ allBelow (periodRight (now (b .entry))) periodPlaces ⌝ }
 {
-    let mut head = heads();
-    let mut next = no_places();
+    let mut head = period_heads();
+    let mut next = no_periods();
     all_periods(b, &mut head, &mut next)
 }
 

@@ -1,6 +1,6 @@
 // Storing of a record by value at a place of the book. Written by tools/places.py.
 ghost use mathlib.Core.Path.{_≡_};
-ghost use Prim.Native.Nat.{_+_, _%_};
+ghost use Prim.Native.Nat.{_+_};
 ghost use lib.ListN.{set, getD};
 ghost use mathlib.Core.List.{[], _∷_};
 ghost use Rattle.tables.specs.Bytes.{one, two, three, four, digits, bytesOf, puts};

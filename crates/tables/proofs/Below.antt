@@ -1,7 +1,7 @@
 -- Laws of the folds over places: one place more, folds over a lone list, and numbers looked through in rising order.
-use Prim.Native.Nat.{ℕ, zero, suc, _+_, _≤_, _<_, min}
+use Prim.Native.Nat.{ℕ, zero, suc, _+_, _≤_, _<_}
 use mathlib.Core.Path.{_≡_, refl, ap, ap₂, _∙_, sym}
-use mathlib.Core.Bool.{Bool, true, false, _&&_, _||_, not, cond}
+use mathlib.Core.Bool.{Bool, true, false, _&&_, _||_, cond}
 use native.Mathlib.Numerals.{add-one}
 use native.Mathlib.Omega.{arith}
 use lib.Dec.{eqb, ltb}
@@ -28,10 +28,6 @@ any-count p (suc n) =
     cases (p n)
     (λ e. rw e (lt-ltb 0 (countBelow p n + 1) (omega arith)))
     (λ e. let z : countBelow p n + 0 ≡ countBelow p n = omega arith in rw (e, z) (any-count p n))
-
-pub least-none : (f : ℕ → ℕ) → leastBelow f 0 ≡ 0
-unfolding leastBelow
-least-none f = refl
 
 pub least-more : (f : ℕ → ℕ) (n : ℕ) → leastBelow f (n + 1) ≡ lesser (f n) (leastBelow f n)
 unfolding leastBelow
@@ -130,17 +126,3 @@ least-by on f m (suc n) h =
     in
     least-or (λ s. on n && eqb (f n) s) (λ s. anyBelow (λ i. on i && eqb (f i) s) n) m
     ∙ ap₂ (λ a b. lesser a b) one (least-by on f m n (λ i l. h i (omega arith)))
-
--- Where each place that is on has a number from 1, none is on exactly if the least number is 0.
-pub least-some : (on : ℕ → Bool) (f : ℕ → ℕ) (n : ℕ) → ((i : ℕ) → i < n → on i ≡ true → 1 ≤ f i) → eqb (leastBelow (λ i. cond (on i) (f i) 0) n) 0 ≡ not (anyBelow on n)
-unfolding anyBelow leastBelow
-least-some on f zero h = refl
-least-some on f (suc n) h =
-    cases (on n)
-    (λ e. rw e (from-one (f n) (leastBelow (λ i. cond (on i) (f i) 0) n) (h n (omega arith) e)))
-    (λ e. rw e (least-some on f n (λ i l. h i (omega arith))))
-  where
-    from-one : (a b : ℕ) → 1 ≤ a → eqb (lesser a b) 0 ≡ false
-    from-one zero b l = absurd (omega arith)
-    from-one (suc a) zero l = ne-eqb (suc a) 0 (λ z. omega arith)
-    from-one (suc a) (suc b) l = ne-eqb (suc (min a b)) 0 (λ z. omega arith)

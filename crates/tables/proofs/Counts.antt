@@ -155,10 +155,6 @@ all-put p (suc n) h = rw (all-put p n (λ k l. h k (omega arith)), h n (omega ar
 
 -- Lists.
 module _ {R : Type 0} where
-  pub count-nil : (p : R → Bool) → count p [] ≡ 0
-  unfolding count
-  count-nil p = refl
-
   pub count-cons : (p : R → Bool) (x : R) (l : List R) → count p (x ∷ l) ≡ count p l + bit (p x)
   unfolding count
   count-cons p x l = refl
@@ -190,10 +186,6 @@ module _ {R : Type 0} where
   unfolding count
   count-never [] = refl
   count-never (x ∷ l) = omega (arith, count-never l)
-
-  pub count-cond : (p : R → Bool) (t : Bool) (l m : List R) → count p (cond t l m) ≡ cond t (count p l) (count p m)
-  count-cond p true l m = refl
-  count-cond p false l m = refl
 
   pub count-alter : (p : R → Bool) (g : R → R) (l : List R) → count p (alter g l) ≡ count (λ x. p (g x)) l
   unfolding count alter

@@ -1,24 +1,18 @@
 -- The place found: where a depository's list has a record as asked, the place is one of it; a free place where its quota leaves room.
-use Prim.Native.Nat.{ℕ, zero, suc, _*_, _≤_, _<_}
-use mathlib.Core.Path.{_≡_, refl, ap, sym, _∙_}
-use mathlib.Core.Bool.{Bool, true, false, _&&_, and-true}
+use Prim.Native.Nat.{ℕ, _*_, _≤_, _<_}
+use mathlib.Core.Path.{_≡_, ap, _∙_}
+use mathlib.Core.Bool.{Bool, true, _&&_, and-true}
 use native.Mathlib.Omega.{arith}
 use lib.Dec.{eqb}
 use lib.ListN.{length}
 use borrow.Author.Tests.{eqb-true}
-use Rattle.tables.specs.Count.{countBelow, findBelow, count, lone}
-use Rattle.tables.proofs.Counts.{both, bit-none, find-some}
+use Rattle.tables.specs.Count.{findBelow, count, lone}
+use Rattle.tables.proofs.Counts.{both, find-some}
 use Rattle.tables.proofs.Lone.{count-lone}
 use Rattle.tables.proofs.Room.{free-place}
 
 pub find-same : (d : ℕ) (p q : ℕ → Bool) (n : ℕ) → ((k : ℕ) → p k ≡ q k) → findBelow d p n ≡ findBelow d q n
 find-same d p q n h = λ i. findBelow d (λ k. h k i) n
-
-pub find-nowhere : (d : ℕ) (p : ℕ → Bool) (n : ℕ) → countBelow p n ≡ 0 → findBelow d p n ≡ d
-unfolding countBelow findBelow
-find-nowhere d p zero h = refl
-find-nowhere d p (suc n) h =
-    let e : p n ≡ false = bit-none (p n) (omega arith) in rw e (find-nowhere d p n (omega arith))
 
 module _ {P R : Type 0} (csd : P → ℕ) (rec : P → R) (at : ℕ → P) (n a : ℕ) (p : R → Bool) where
   abbrev pub place : ℕ
@@ -29,9 +23,6 @@ module _ {P R : Type 0} (csd : P → ℕ) (rec : P → R) (at : ℕ → P) (n a 
       let f = find-some n (λ k. eqb (csd (at k)) a && p (rec (at k))) n (omega (arith, count-lone csd rec a p at n)) in
       let b = both (eqb (csd (at place)) a) (p (rec (at place))) (f .1) in
       (f .0, eqb-true (csd (at place)) a (b .0), b .1)
-
-  pub missed : count p (lone csd rec a at n) ≡ 0 → place ≡ n
-  missed h = find-nowhere n (λ k. eqb (csd (at k)) a && p (rec (at k))) n (sym (count-lone csd rec a p at n) ∙ h)
 
 -- A free place is depository 0's, whatever is asked of its record.
 pub found-free : {P R : Type 0} (csd : P → ℕ) (rec : P → R) (at : ℕ → P) (n m q : ℕ) (p : R → Bool) → ((x : R) → p x ≡ true) → ((c : ℕ) → 1 ≤ c → c ≤ m → length (lone csd rec c at n) ≤ q) → (c : ℕ) → 1 ≤ c → c ≤ m → length (lone csd rec c at n) < q → m * q ≤ n → ((k : ℕ) → k < n → (csd (at k) ≡ 0 → ⊥) → (1 ≤ csd (at k)) × (csd (at k) ≤ m)) → (place csd rec at n 0 p < n) × (csd (at (place csd rec at n 0 p)) ≡ 0)

@@ -10,3 +10,6 @@ pub mod Zeros
 pub mod Below
 pub mod Keying
 pub mod Match
+pub mod Walk
+pub mod Entries
+pub mod Padding

@@ -12,10 +12,10 @@ use Rattle.meaning.specs.declared.Verdict.{Verdict}
 use Rattle.meaning.specs.declared.Answer.{Answer}
 use Rattle.meaning.specs.declared.Answer.the-variants.{Taken, Refused, Judged}
 use Rattle.meaning.proofs.Numerals.{numeral-one, numeral-two, numeral-three}
-use Rattle.line.specs.Line.{padded}
+use Rattle.tables.specs.Padded.{padded}
 use Rattle.text.specs.Printed.{printedAs, added, addedAll, Numbered, Prints}
 use Rattle.text.specs.declared.printing.Printed.{Printed}
-use Rattle.line.proofs.Padding.{length-padded}
+use Rattle.tables.proofs.Padding.{length-padded}
 
 -- ---- one byte more
 

@@ -8,7 +8,7 @@ use lib.ListN.{length, take, set}
 use Rattle.meaning.specs.Text.{numeral}
 use Rattle.meaning.specs.Printing.{printed}
 use Rattle.meaning.specs.declared.Answer.{Answer}
-use Rattle.line.specs.Line.{padded}
+use Rattle.tables.specs.Padded.{padded}
 use Rattle.text.specs.declared.printing.Printed.{Printed}
 
 -- a text in 32 bytes, zeros after it

@@ -1,5 +1,6 @@
 -- `book::count_periods` meets its contract. Assumes nothing.
 use Rattle.tables.specs.Count.{countBelow}
+use Rattle.places.specs.Layout.{periodPlaces}
 use Rattle.tables.proofs.Counts.{count-none}
 use Rattle.book.proofs.BookReturns.{period-between, period-counted, period-none-left, period-all}
 use Rattle.book.specs.Places.{periodHit}
@@ -11,10 +12,10 @@ use Rattle.book.proofs.count_periods.Statement.{statement}
 use Rattle.book.proofs.count_periods.Tie as tie
 
 abbrev Inv-loop : tie.InvT-loop
-Inv-loop b a q n₀ i₀ n i = (i ≤ 1024) × (n ≤ i) × (n ≡ countBelow (periodHit b a q) i)
+Inv-loop b a q n₀ i₀ n i = (i ≤ periodPlaces) × (n ≤ i) × (n ≡ countBelow (periodHit b a q) i)
 
 abbrev μ-loop : tie.MeasureT-loop
-μ-loop b a q n₀ i₀ n i = 1024 - i
+μ-loop b a q n₀ i₀ n i = periodPlaces - i
 
 pub count-periods-spec : {M : Type 1} → statement M
 count-periods-spec =

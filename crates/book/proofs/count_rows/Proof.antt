@@ -1,5 +1,6 @@
 -- `book::count_rows` meets its contract. Assumes nothing.
 use Rattle.tables.specs.Count.{countBelow}
+use Rattle.places.specs.Layout.{rowPlaces}
 use Rattle.tables.proofs.Counts.{count-none}
 use Rattle.book.proofs.BookReturns.{row-between, row-counted, row-none-left, row-all}
 use Rattle.book.specs.Places.{rowHit}
@@ -12,10 +13,10 @@ use Rattle.book.proofs.count_rows.Statement.{statement}
 use Rattle.book.proofs.count_rows.Tie as tie
 
 abbrev Inv-loop : tie.InvT-loop
-Inv-loop b a q w n₀ i₀ n i = (i ≤ 1024) × (n ≤ i) × (n ≡ countBelow (rowHit b a q (rowOf w)) i)
+Inv-loop b a q w n₀ i₀ n i = (i ≤ rowPlaces) × (n ≤ i) × (n ≡ countBelow (rowHit b a q (rowOf w)) i)
 
 abbrev μ-loop : tie.MeasureT-loop
-μ-loop b a q w n₀ i₀ n i = 1024 - i
+μ-loop b a q w n₀ i₀ n i = rowPlaces - i
 
 pub count-rows-spec : {M : Type 1} → statement M
 count-rows-spec =

@@ -1,5 +1,6 @@
 -- `book::count_rules` meets its contract. Assumes nothing.
 use Rattle.tables.specs.Count.{countBelow}
+use Rattle.places.specs.Layout.{rulePlaces}
 use Rattle.tables.proofs.Counts.{count-none}
 use Rattle.book.proofs.BookReturns.{rule-between, rule-counted, rule-none-left, rule-all}
 use Rattle.book.specs.Places.{ruleHit}
@@ -12,10 +13,10 @@ use Rattle.book.proofs.count_rules.Statement.{statement}
 use Rattle.book.proofs.count_rules.Tie as tie
 
 abbrev Inv-loop : tie.InvT-loop
-Inv-loop b a q w n₀ i₀ n i = (i ≤ 512) × (n ≤ i) × (n ≡ countBelow (ruleHit b a q (rowOf w)) i)
+Inv-loop b a q w n₀ i₀ n i = (i ≤ rulePlaces) × (n ≤ i) × (n ≡ countBelow (ruleHit b a q (rowOf w)) i)
 
 abbrev μ-loop : tie.MeasureT-loop
-μ-loop b a q w n₀ i₀ n i = 512 - i
+μ-loop b a q w n₀ i₀ n i = rulePlaces - i
 
 pub count-rules-spec : {M : Type 1} → statement M
 count-rules-spec =

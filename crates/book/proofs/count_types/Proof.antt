@@ -1,5 +1,6 @@
 -- `book::count_types` meets its contract. Assumes nothing.
 use Rattle.tables.specs.Count.{countBelow}
+use Rattle.places.specs.Layout.{typePlaces}
 use Rattle.tables.proofs.Counts.{count-none}
 use Rattle.book.proofs.BookReturns.{type-between, type-counted, type-none-left, type-all}
 use Rattle.book.specs.Places.{typeHit}
@@ -11,10 +12,10 @@ use Rattle.book.proofs.count_types.Statement.{statement}
 use Rattle.book.proofs.count_types.Tie as tie
 
 abbrev Inv-loop : tie.InvT-loop
-Inv-loop b a q n₀ i₀ n i = (i ≤ 128) × (n ≤ i) × (n ≡ countBelow (typeHit b a q) i)
+Inv-loop b a q n₀ i₀ n i = (i ≤ typePlaces) × (n ≤ i) × (n ≡ countBelow (typeHit b a q) i)
 
 abbrev μ-loop : tie.MeasureT-loop
-μ-loop b a q n₀ i₀ n i = 128 - i
+μ-loop b a q n₀ i₀ n i = typePlaces - i
 
 pub count-types-spec : {M : Type 1} → statement M
 count-types-spec =

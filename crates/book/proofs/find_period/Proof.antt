@@ -1,5 +1,6 @@
 -- `book::find_period` meets its contract. Assumes nothing.
 use Rattle.tables.specs.Count.{findBelow}
+use Rattle.places.specs.Layout.{periodPlaces}
 use Rattle.book.proofs.Looking.{found-here, found-less, found-none}
 use Rattle.book.specs.Places.{periodHit, periodPlace}
 use Prim.Native.Nat.{_≤_}
@@ -10,7 +11,7 @@ use Rattle.book.proofs.find_period.Statement.{statement}
 use Rattle.book.proofs.find_period.Tie as tie
 
 abbrev Inv-loop : tie.InvT-loop
-Inv-loop b a q i₀ i = (i ≤ 1024) × (findBelow 1024 (periodHit b a q) 1024 ≡ findBelow 1024 (periodHit b a q) i)
+Inv-loop b a q i₀ i = (i ≤ periodPlaces) × (findBelow periodPlaces (periodHit b a q) periodPlaces ≡ findBelow periodPlaces (periodHit b a q) i)
 
 abbrev μ-loop : tie.MeasureT-loop
 μ-loop b a q i₀ i = i
@@ -28,4 +29,4 @@ find-period-spec =
     (λ c. search found-here)
     (λ c. omega arith)
     (λ c. (omega arith, search found-less))
-    (λ c. found-none 1024 1024 _ _ (omega arith) (c .before .loop .inv .1)))
+    (λ c. found-none periodPlaces periodPlaces _ _ (omega arith) (c .before .loop .inv .1)))

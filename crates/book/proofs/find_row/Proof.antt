@@ -1,5 +1,6 @@
 -- `book::find_row` meets its contract. Assumes nothing.
 use Rattle.tables.specs.Count.{findBelow}
+use Rattle.places.specs.Layout.{rowPlaces}
 use Rattle.book.proofs.Looking.{found-here, found-less, found-none}
 use Rattle.book.specs.Places.{rowHit, rowPlace}
 use Rattle.records.specs.Said.{rowOf}
@@ -11,7 +12,7 @@ use Rattle.book.proofs.find_row.Statement.{statement}
 use Rattle.book.proofs.find_row.Tie as tie
 
 abbrev Inv-loop : tie.InvT-loop
-Inv-loop b a q w i₀ i = (i ≤ 1024) × (findBelow 1024 (rowHit b a q (rowOf w)) 1024 ≡ findBelow 1024 (rowHit b a q (rowOf w)) i)
+Inv-loop b a q w i₀ i = (i ≤ rowPlaces) × (findBelow rowPlaces (rowHit b a q (rowOf w)) rowPlaces ≡ findBelow rowPlaces (rowHit b a q (rowOf w)) i)
 
 abbrev μ-loop : tie.MeasureT-loop
 μ-loop b a q w i₀ i = i
@@ -29,4 +30,4 @@ find-row-spec =
     (λ c. search found-here)
     (λ c. omega arith)
     (λ c. (omega arith, search found-less))
-    (λ c. found-none 1024 1024 _ _ (omega arith) (c .before .loop .inv .1)))
+    (λ c. found-none rowPlaces rowPlaces _ _ (omega arith) (c .before .loop .inv .1)))

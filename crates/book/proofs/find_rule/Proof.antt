@@ -1,5 +1,6 @@
 -- `book::find_rule` meets its contract. Assumes nothing.
 use Rattle.tables.specs.Count.{findBelow}
+use Rattle.places.specs.Layout.{rulePlaces}
 use Rattle.book.proofs.Looking.{found-here, found-less, found-none}
 use Rattle.book.specs.Places.{ruleHit, rulePlace}
 use Rattle.records.specs.Said.{rowOf}
@@ -11,7 +12,7 @@ use Rattle.book.proofs.find_rule.Statement.{statement}
 use Rattle.book.proofs.find_rule.Tie as tie
 
 abbrev Inv-loop : tie.InvT-loop
-Inv-loop b a q w i₀ i = (i ≤ 512) × (findBelow 512 (ruleHit b a q (rowOf w)) 512 ≡ findBelow 512 (ruleHit b a q (rowOf w)) i)
+Inv-loop b a q w i₀ i = (i ≤ rulePlaces) × (findBelow rulePlaces (ruleHit b a q (rowOf w)) rulePlaces ≡ findBelow rulePlaces (ruleHit b a q (rowOf w)) i)
 
 abbrev μ-loop : tie.MeasureT-loop
 μ-loop b a q w i₀ i = i
@@ -29,4 +30,4 @@ find-rule-spec =
     (λ c. search found-here)
     (λ c. omega arith)
     (λ c. (omega arith, search found-less))
-    (λ c. found-none 512 512 _ _ (omega arith) (c .before .loop .inv .1)))
+    (λ c. found-none rulePlaces rulePlaces _ _ (omega arith) (c .before .loop .inv .1)))

@@ -1,5 +1,6 @@
 -- `book::find_type` meets its contract. Assumes nothing.
 use Rattle.tables.specs.Count.{findBelow}
+use Rattle.places.specs.Layout.{typePlaces}
 use Rattle.book.proofs.Looking.{found-here, found-less, found-none}
 use Rattle.book.specs.Places.{typeHit, typePlace}
 use Prim.Native.Nat.{_≤_}
@@ -10,7 +11,7 @@ use Rattle.book.proofs.find_type.Statement.{statement}
 use Rattle.book.proofs.find_type.Tie as tie
 
 abbrev Inv-loop : tie.InvT-loop
-Inv-loop b a q i₀ i = (i ≤ 128) × (findBelow 128 (typeHit b a q) 128 ≡ findBelow 128 (typeHit b a q) i)
+Inv-loop b a q i₀ i = (i ≤ typePlaces) × (findBelow typePlaces (typeHit b a q) typePlaces ≡ findBelow typePlaces (typeHit b a q) i)
 
 abbrev μ-loop : tie.MeasureT-loop
 μ-loop b a q i₀ i = i
@@ -28,4 +29,4 @@ find-type-spec =
     (λ c. search found-here)
     (λ c. omega arith)
     (λ c. (omega arith, search found-less))
-    (λ c. found-none 128 128 _ _ (omega arith) (c .before .loop .inv .1)))
+    (λ c. found-none typePlaces typePlaces _ _ (omega arith) (c .before .loop .inv .1)))

@@ -4,13 +4,13 @@ use mathlib.Core.Path.{refl}
 use lib.ListN.{length}
 use native.Mathlib.Omega.{arith}
 use borrow.Author.Needs.{needs}
-use Rattle.line.specs.Values.{belongs}
+use Rattle.line.specs.Values.{ofClass}
 use Rattle.line.proofs.Loops.{EveryTo, every-next, every-end}
 use Rattle.line.proofs.every.Statement.{statement}
 use Rattle.line.proofs.every.Tie as tie
 
 abbrev Inv-loop : tie.InvT-loop
-Inv-loop class s good₀ i₀ good i = EveryTo (belongs class) s good i
+Inv-loop class s good₀ i₀ good i = EveryTo (ofClass class) s good i
 
 abbrev μ-loop : tie.MeasureT-loop
 μ-loop class s good₀ i₀ good i = length s - i

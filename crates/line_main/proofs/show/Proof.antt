@@ -11,6 +11,7 @@ show-spec =
     (tie.spec
     (λ c κs. search needs)
     (λ c. omega (arith, refusal-few _ (c .read-line .ensures)))
+    (λ c κs. search needs)
     (λ c. search needs)
     (λ c κs. search needs)
     (λ c. search needs))

@@ -1,4 +1,5 @@
--- `ranges::period_fits` meets its contract; facts are named, so that a wrong one is refused for certain. Assumes nothing.
+-- `ranges::period_fits` meets its contract; facts are named, so that a wrong one is refused for certain. Assumes
+-- nothing.
 use Rattle.ranges.proofs.RangeReturns.{period-said}
 use borrow.Author.Needs.{needs}
 use Rattle.ranges.proofs.period_fits.Statement.{statement}
@@ -23,5 +24,5 @@ period-fits-spec =
     (c .before .before .days-fit .ensures)
     (c .before .before .before .is-code .ensures)
     (of .and .ensures)
-    (of .before .inside .ensures)
-    (of .before .before .small .ensures)))
+    (of .before .within .ensures)
+    (of .before .before .byte-within .ensures)))

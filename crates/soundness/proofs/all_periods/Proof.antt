@@ -3,6 +3,8 @@ use Prim.Native.Nat.{_-_, _%_}
 use mathlib.Core.Path.{_≡_}
 use native.Mathlib.Omega.{arith}
 use borrow.Author.Needs.{needs}
+use Rattle.chains.specs.Sizes.{blockPlaces, periodHeads}
+use Rattle.places.specs.Layout.{periodPlaces}
 use Rattle.chains.specs.Chains.{Going}
 use Rattle.soundness.specs.Tables.{periodCsd, periodChain, periodRight}
 use Rattle.chains.proofs.ChainPassing.{going-none, blocks-on, blocks-fail, going-end}
@@ -10,10 +12,10 @@ use Rattle.soundness.proofs.all_periods.Statement.{statement}
 use Rattle.soundness.proofs.all_periods.Tie as tie
 
 abbrev Inv-loop : tie.InvT-loop
-Inv-loop b head₀ next₀ counts₀ i₀ head next counts i = Going (periodCsd b) (periodChain b) 2304 1024 (periodRight b) i counts head next × (i % 16 ≡ 0)
+Inv-loop b head₀ next₀ counts₀ i₀ head next counts i = Going (periodCsd b) (periodChain b) periodHeads periodPlaces (periodRight b) i counts head next × (i % blockPlaces ≡ 0)
 
 abbrev μ-loop : tie.MeasureT-loop
-μ-loop b head₀ next₀ counts₀ i₀ head next counts i = 1024 - i
+μ-loop b head₀ next₀ counts₀ i₀ head next counts i = periodPlaces - i
 
 pub all-periods-spec : {M : Type 1} → statement M
 all-periods-spec =

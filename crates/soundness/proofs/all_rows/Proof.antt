@@ -3,6 +3,8 @@ use Prim.Native.Nat.{_-_, _%_}
 use mathlib.Core.Path.{_≡_}
 use native.Mathlib.Omega.{arith}
 use borrow.Author.Needs.{needs}
+use Rattle.chains.specs.Sizes.{blockPlaces, rowHeads}
+use Rattle.places.specs.Layout.{rowPlaces}
 use Rattle.chains.specs.Chains.{Going}
 use Rattle.soundness.specs.Tables.{rowCsd, rowChain, rowRight}
 use Rattle.chains.proofs.ChainPassing.{going-none, blocks-on, blocks-fail, going-end}
@@ -10,10 +12,10 @@ use Rattle.soundness.proofs.all_rows.Statement.{statement}
 use Rattle.soundness.proofs.all_rows.Tie as tie
 
 abbrev Inv-loop : tie.InvT-loop
-Inv-loop b starts links head₀ next₀ counts₀ i₀ head next counts i = Going (rowCsd b) (rowChain b) 2304 1024 (rowRight b) i counts head next × (i % 16 ≡ 0)
+Inv-loop b starts links head₀ next₀ counts₀ i₀ head next counts i = Going (rowCsd b) (rowChain b) rowHeads rowPlaces (rowRight b) i counts head next × (i % blockPlaces ≡ 0)
 
 abbrev μ-loop : tie.MeasureT-loop
-μ-loop b starts links head₀ next₀ counts₀ i₀ head next counts i = 1024 - i
+μ-loop b starts links head₀ next₀ counts₀ i₀ head next counts i = rowPlaces - i
 
 pub all-rows-spec : {M : Type 1} → statement M
 all-rows-spec =

@@ -3,6 +3,8 @@ use Prim.Native.Nat.{_-_, _%_}
 use mathlib.Core.Path.{_≡_}
 use native.Mathlib.Omega.{arith}
 use borrow.Author.Needs.{needs}
+use Rattle.chains.specs.Sizes.{blockPlaces, typeHeads}
+use Rattle.places.specs.Layout.{typePlaces}
 use Rattle.chains.specs.Chains.{Going}
 use Rattle.soundness.specs.Tables.{typeCsd, typeChain, typeRight}
 use Rattle.chains.proofs.ChainPassing.{going-none, blocks-on, blocks-fail, going-end}
@@ -10,10 +12,10 @@ use Rattle.soundness.proofs.all_types.Statement.{statement}
 use Rattle.soundness.proofs.all_types.Tie as tie
 
 abbrev Inv-loop : tie.InvT-loop
-Inv-loop b head₀ next₀ counts₀ i₀ head next counts i = Going (typeCsd b) (typeChain b) 576 128 (typeRight b) i counts head next × (i % 16 ≡ 0)
+Inv-loop b head₀ next₀ counts₀ i₀ head next counts i = Going (typeCsd b) (typeChain b) typeHeads typePlaces (typeRight b) i counts head next × (i % blockPlaces ≡ 0)
 
 abbrev μ-loop : tie.MeasureT-loop
-μ-loop b head₀ next₀ counts₀ i₀ head next counts i = 128 - i
+μ-loop b head₀ next₀ counts₀ i₀ head next counts i = typePlaces - i
 
 pub all-types-spec : {M : Type 1} → statement M
 all-types-spec =

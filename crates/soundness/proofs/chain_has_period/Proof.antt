@@ -3,6 +3,7 @@ use Prim.Native.Nat.{_-_}
 use native.Mathlib.Omega.{arith}
 use lib.ListN.{getD}
 use borrow.Author.Needs.{needs}
+use Rattle.places.specs.Layout.{periodPlaces}
 use Rattle.book.specs.Places.{periodHit}
 use Rattle.chains.specs.Chains.{Walking}
 use Rattle.chains.proofs.Chaining.{walk-start, walk-end, walk-over, walk-found, walk-on}
@@ -10,10 +11,10 @@ use Rattle.soundness.proofs.chain_has_period.Statement.{statement}
 use Rattle.soundness.proofs.chain_has_period.Tie as tie
 
 abbrev Inv-loop : tie.InvT-loop
-Inv-loop b head next k a q j₀ s₀ j s = Walking next (periodHit b a q) 1024 (getD head k 0) s j
+Inv-loop b head next k a q j₀ s₀ j s = Walking next (periodHit b a q) periodPlaces (getD head k 0) s j
 
 abbrev μ-loop : tie.MeasureT-loop
-μ-loop b head next k a q j₀ s₀ j s = 1024 - s
+μ-loop b head next k a q j₀ s₀ j s = periodPlaces - s
 
 pub chain-has-period-spec : {M : Type 1} → statement M
 chain-has-period-spec =

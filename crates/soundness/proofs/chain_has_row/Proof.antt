@@ -3,6 +3,7 @@ use Prim.Native.Nat.{_-_}
 use native.Mathlib.Omega.{arith}
 use lib.ListN.{getD}
 use borrow.Author.Needs.{needs}
+use Rattle.places.specs.Layout.{rowPlaces}
 use Rattle.records.specs.Said.{rowOf}
 use Rattle.book.specs.Places.{rowHit}
 use Rattle.chains.specs.Chains.{Walking}
@@ -11,10 +12,10 @@ use Rattle.soundness.proofs.chain_has_row.Statement.{statement}
 use Rattle.soundness.proofs.chain_has_row.Tie as tie
 
 abbrev Inv-loop : tie.InvT-loop
-Inv-loop b head next k a q w j₀ s₀ j s = Walking next (rowHit b a q (rowOf w)) 1024 (getD head k 0) s j
+Inv-loop b head next k a q w j₀ s₀ j s = Walking next (rowHit b a q (rowOf w)) rowPlaces (getD head k 0) s j
 
 abbrev μ-loop : tie.MeasureT-loop
-μ-loop b head next k a q w j₀ s₀ j s = 1024 - s
+μ-loop b head next k a q w j₀ s₀ j s = rowPlaces - s
 
 pub chain-has-row-spec : {M : Type 1} → statement M
 chain-has-row-spec =

@@ -3,6 +3,7 @@ use Prim.Native.Nat.{_-_}
 use native.Mathlib.Omega.{arith}
 use lib.ListN.{getD}
 use borrow.Author.Needs.{needs}
+use Rattle.places.specs.Layout.{rulePlaces}
 use Rattle.records.specs.Said.{rowOf}
 use Rattle.book.specs.Places.{ruleHit}
 use Rattle.chains.specs.Chains.{Walking}
@@ -11,10 +12,10 @@ use Rattle.soundness.proofs.chain_has_rule.Statement.{statement}
 use Rattle.soundness.proofs.chain_has_rule.Tie as tie
 
 abbrev Inv-loop : tie.InvT-loop
-Inv-loop b head next k a q w j₀ s₀ j s = Walking next (ruleHit b a q (rowOf w)) 512 (getD head k 0) s j
+Inv-loop b head next k a q w j₀ s₀ j s = Walking next (ruleHit b a q (rowOf w)) rulePlaces (getD head k 0) s j
 
 abbrev μ-loop : tie.MeasureT-loop
-μ-loop b head next k a q w j₀ s₀ j s = 512 - s
+μ-loop b head next k a q w j₀ s₀ j s = rulePlaces - s
 
 pub chain-has-rule-spec : {M : Type 1} → statement M
 chain-has-rule-spec =

@@ -3,6 +3,7 @@ use Prim.Native.Nat.{_-_}
 use native.Mathlib.Omega.{arith}
 use lib.ListN.{getD}
 use borrow.Author.Needs.{needs}
+use Rattle.places.specs.Layout.{typePlaces}
 use Rattle.book.specs.Places.{typeHit}
 use Rattle.chains.specs.Chains.{Walking}
 use Rattle.chains.proofs.Chaining.{walk-start, walk-end, walk-over, walk-found, walk-on}
@@ -10,10 +11,10 @@ use Rattle.soundness.proofs.chain_has_type.Statement.{statement}
 use Rattle.soundness.proofs.chain_has_type.Tie as tie
 
 abbrev Inv-loop : tie.InvT-loop
-Inv-loop b head next k a q j₀ s₀ j s = Walking next (typeHit b a q) 128 (getD head k 0) s j
+Inv-loop b head next k a q j₀ s₀ j s = Walking next (typeHit b a q) typePlaces (getD head k 0) s j
 
 abbrev μ-loop : tie.MeasureT-loop
-μ-loop b head next k a q j₀ s₀ j s = 128 - s
+μ-loop b head next k a q j₀ s₀ j s = typePlaces - s
 
 pub chain-has-type-spec : {M : Type 1} → statement M
 chain-has-type-spec =

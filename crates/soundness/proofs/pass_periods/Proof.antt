@@ -2,6 +2,8 @@
 use Prim.Native.Nat.{_+_, _-_, _≤_}
 use native.Mathlib.Omega.{arith}
 use borrow.Author.Needs.{needs}
+use Rattle.chains.specs.Sizes.{blockPlaces, periodHeads}
+use Rattle.places.specs.Layout.{periodPlaces}
 use Rattle.chains.specs.Chains.{Going}
 use Rattle.soundness.specs.Tables.{periodCsd, periodChain, periodRight}
 use Rattle.chains.proofs.ChainPassing.{going-ready, going-on, block-fails, block-end}
@@ -10,10 +12,10 @@ use Rattle.soundness.proofs.pass_periods.Statement.{statement}
 use Rattle.soundness.proofs.pass_periods.Tie as tie
 
 abbrev Inv-loop : tie.InvT-loop
-Inv-loop b from counts₀ head₀ next₀ i₀ i-end counts head next i = (i ≤ from + 16) × Going (periodCsd b) (periodChain b) 2304 1024 (periodRight b) i counts head next
+Inv-loop b from counts₀ head₀ next₀ i₀ i-end counts head next i = (i ≤ from + blockPlaces) × Going (periodCsd b) (periodChain b) periodHeads periodPlaces (periodRight b) i counts head next
 
 abbrev μ-loop : tie.MeasureT-loop
-μ-loop b from counts₀ head₀ next₀ i₀ i-end counts head next i = from + 16 - i
+μ-loop b from counts₀ head₀ next₀ i₀ i-end counts head next i = from + blockPlaces - i
 
 pub pass-periods-spec : {M : Type 1} → statement M
 pass-periods-spec =

@@ -2,6 +2,8 @@
 use Prim.Native.Nat.{_+_, _-_, _≤_}
 use native.Mathlib.Omega.{arith}
 use borrow.Author.Needs.{needs}
+use Rattle.chains.specs.Sizes.{blockPlaces, ruleHeads}
+use Rattle.places.specs.Layout.{rulePlaces}
 use Rattle.chains.specs.Chains.{Going}
 use Rattle.soundness.specs.Tables.{ruleCsd, ruleChain, ruleRight}
 use Rattle.chains.proofs.ChainPassing.{going-ready, going-on, block-fails, block-end}
@@ -10,10 +12,10 @@ use Rattle.soundness.proofs.pass_rules.Statement.{statement}
 use Rattle.soundness.proofs.pass_rules.Tie as tie
 
 abbrev Inv-loop : tie.InvT-loop
-Inv-loop b from starts links counts₀ head₀ next₀ i₀ i-end counts head next i = (i ≤ from + 16) × Going (ruleCsd b) (ruleChain b) 1152 512 (ruleRight b) i counts head next
+Inv-loop b from starts links counts₀ head₀ next₀ i₀ i-end counts head next i = (i ≤ from + blockPlaces) × Going (ruleCsd b) (ruleChain b) ruleHeads rulePlaces (ruleRight b) i counts head next
 
 abbrev μ-loop : tie.MeasureT-loop
-μ-loop b from starts links counts₀ head₀ next₀ i₀ i-end counts head next i = from + 16 - i
+μ-loop b from starts links counts₀ head₀ next₀ i₀ i-end counts head next i = from + blockPlaces - i
 
 pub pass-rules-spec : {M : Type 1} → statement M
 pass-rules-spec =

@@ -2,6 +2,8 @@
 use Prim.Native.Nat.{_+_, _-_, _≤_}
 use native.Mathlib.Omega.{arith}
 use borrow.Author.Needs.{needs}
+use Rattle.chains.specs.Sizes.{blockPlaces, typeHeads}
+use Rattle.places.specs.Layout.{typePlaces}
 use Rattle.chains.specs.Chains.{Going}
 use Rattle.soundness.specs.Tables.{typeCsd, typeChain, typeRight}
 use Rattle.chains.proofs.ChainPassing.{going-ready, going-on, block-fails, block-end}
@@ -10,10 +12,10 @@ use Rattle.soundness.proofs.pass_types.Statement.{statement}
 use Rattle.soundness.proofs.pass_types.Tie as tie
 
 abbrev Inv-loop : tie.InvT-loop
-Inv-loop b from counts₀ head₀ next₀ i₀ i-end counts head next i = (i ≤ from + 16) × Going (typeCsd b) (typeChain b) 576 128 (typeRight b) i counts head next
+Inv-loop b from counts₀ head₀ next₀ i₀ i-end counts head next i = (i ≤ from + blockPlaces) × Going (typeCsd b) (typeChain b) typeHeads typePlaces (typeRight b) i counts head next
 
 abbrev μ-loop : tie.MeasureT-loop
-μ-loop b from counts₀ head₀ next₀ i₀ i-end counts head next i = from + 16 - i
+μ-loop b from counts₀ head₀ next₀ i₀ i-end counts head next i = from + blockPlaces - i
 
 pub pass-types-spec : {M : Type 1} → statement M
 pass-types-spec =

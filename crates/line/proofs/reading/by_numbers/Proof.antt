@@ -1,5 +1,5 @@
 -- `line::reading::by_numbers` meets its contract.
-use Rattle.line.proofs.Readings.{bad-field, wrong-numbers, right-numbers}
+use Rattle.line.proofs.Readings.{bad-field, good-fields}
 use borrow.Author.Needs.{needs}
 use Rattle.line.proofs.reading.by_numbers.Statement.{statement}
 use Rattle.line.proofs.reading.by_numbers.Tie as tie
@@ -11,6 +11,4 @@ by-numbers-spec =
     (λ c κs. search needs)
     (λ c. search bad-field)
     (λ c κs. search needs)
-    (λ c κs. search needs)
-    (λ c. search wrong-numbers)
-    (λ c. search right-numbers))
+    (λ c. search good-fields))

@@ -63,7 +63,7 @@ use Rattle.fields.proofs.LineReader.next.Met as next-thm
 use Rattle.line.specs.Table.{formsAt, Counted}
 use Rattle.line.specs.Line.{firstRead, putAt, inRow, valuesOf}
 use Rattle.line.specs.declared.reading.Values.{Values}
-use Rattle.line.proofs.Walk.{whiles}
+use Rattle.tables.proofs.Walk.{whiles}
 use Rattle.line.proofs.FieldNumbers.{RowTo, row-start, row-next, row-end}
 use Rattle.line.proofs.reading.Values as S
 use Rattle.line.proofs.reading.Values.Laws as S′

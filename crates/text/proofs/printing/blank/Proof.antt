@@ -1,6 +1,6 @@
 -- `text::printing::blank` meets its contract.
 use mathlib.Core.Path.{refl}
-use Rattle.line.specs.Line.{padded}
+use Rattle.tables.specs.Padded.{padded}
 use Rattle.text.specs.Printed.{printedAs}
 use Rattle.text.proofs.printing.blank.Statement.{statement}
 use Rattle.text.proofs.printing.blank.Tie as tie
