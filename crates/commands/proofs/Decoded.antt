@@ -18,7 +18,7 @@ use Rattle.places.specs.declared.RestrictionType.{RestrictionType}
 use Rattle.places.specs.declared.Rule.{Rule}
 use Rattle.places.specs.declared.Row.{Row}
 use Rattle.places.specs.declared.Period.{Period}
-use Rattle.commands.specs.Asked.{questionOf, askedBy, asked, whatOf, rowBeside, coded, orQuestion, letterFor, commandFrom}
+use Rattle.commands.specs.Asked.{askedBy, asked, whatOf, rowBeside, coded, orQuestion, letterFor, commandFrom}
 use Rattle.commands.specs.declared.Question.{Question}
 use Rattle.commands.specs.declared.What.{What}
 use Rattle.commands.specs.declared.What.the-variants as What
@@ -187,5 +187,5 @@ module _ (c : Command) where
 
   pub wrong-Q : (r : Bool) (q : Question) (x y z : Bool) → c .what ≡ What.Ask q → r ≡ cond (eqb (q .object) 1) x y → y ≡ not z
       → z ≡ (eqb (q .movement) 0 && eqb (q .payment) 0) → x ≡ (eqb (q .movement) 0 || eqb (q .payment) 0) → r ≡ wrong (asked c)
-  unfolding wrong askedBy questionOf
+  unfolding wrong askedBy
   wrong-Q r q x y z e f g h i = rw (e, f, g, h, i)

@@ -14,7 +14,7 @@ use Rattle.meaning.specs.Records.{_!_, commandOf}
 use Rattle.meaning.proofs.Shapes.{Ranged, by-rows}
 use Rattle.meaning.proofs.Ranges.{holds-at}
 use Rattle.records.specs.Said.{typeOf, ruleOf, rowOf, periodOf}
-use Rattle.commands.specs.Asked.{questionOf, askedBy, asked, coded}
+use Rattle.commands.specs.Asked.{askedBy, asked, coded}
 
 -- The numbers of a key: type, object and sequence.
 abbrev Key : ℕ → ℕ → ℕ → Type 0
@@ -33,11 +33,11 @@ Narrow d (M.addPeriod e p) = (e ≡ d) × (p .kind < 256)
 Narrow d (M.endPeriod e kind number code first last) = (e ≡ d) × (kind < 256)
 Narrow d (M.ask q) = (q .object < 256)
 
-low-same : (n : ℕ) → n < 256 → n % 256 ≡ n
+pub low-same : (n : ℕ) → n < 256 → n % 256 ≡ n
 low-same n l = omega arith
 
 pub asked-coded : (c d : ℕ) (k : M.Command) → Narrow d k → asked (coded c d k) ≡ k
-unfolding coded askedBy typeOf ruleOf rowOf periodOf questionOf
+unfolding coded askedBy typeOf ruleOf rowOf periodOf
 asked-coded c d (M.addType e t) (f, n, o, p) = rw (f, low-same (t .type) n, low-same (t .object) o, low-same (t .processing) p)
 asked-coded c d (M.endType e type object last) (f, n, o) = rw (f, low-same type n, low-same object o)
 asked-coded c d (M.addRule e r) (f, (n, o, s), g) =

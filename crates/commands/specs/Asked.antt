@@ -21,7 +21,7 @@ use Rattle.commands.specs.declared.Command.{Command}
 
 -- ---- what a command asks
 
-unfoldable pub questionOf : Question → M.Question
+abbrev pub questionOf : Question → M.Question
 questionOf q = record {
   day = q .day;
   object = q .object;
