@@ -23,6 +23,7 @@ use Rattle.meaning.proofs.Ranges.{reading-ranged, reading-fits}
 use Rattle.meaning.proofs.Names.{reading-csd, reading-names, reading-depository, names-depository}
 use Rattle.commands.specs.Asked.{questionOf, asked, whatOf, coded, letterFor, commandFrom}
 use Rattle.commands.specs.declared.Question.{Question}
+use Rattle.commands.specs.declared.What.{What}
 use Rattle.commands.specs.declared.What.the-variants as What
 use Rattle.commands.specs.declared.Command.{Command}
 use Rattle.commands.proofs.Decoded.{letter-for}
@@ -40,6 +41,9 @@ use Rattle.precheck.specs.Promise.{answerIn, loneAfter, leftAsFound, Sub
 use Rattle.precheck.specs.Taking.{refusalOf, replyTo, answerOf, bytesAfter, Took, commandIn, answerRead, bytesRead, answerBy, bytesBy, Answers}
 
 -- ---- the returns of reply and take
+
+pub replied : (b : List ℕ) (c : Command) (w : What) → c .what ≡ w → Taken ≡ replyTo b w → Taken ≡ replyTo b (c .what)
+replied b c w e f = rw e f
 
 pub replied-question : (b : List ℕ) (c : Command) (q : Question) (v : _) → c .what ≡ What.Ask q → v ≡ judgedBy b q → Judged v ≡ replyTo b (c .what)
 unfolding replyTo
@@ -324,6 +328,7 @@ answers-any b line s =
     (λ e. rw (ne-eqb (l .refusal) 0 e) (answers-unread b line true (Refused (l .refusal)) l refl refl e refl))
 
 pub keeps-promise : (b line : List ℕ) → Submitted b line (answerBy (sound b) b line) (bytesBy (sound b) b line)
+unfolding answerBy bytesBy
 keeps-promise b line =
     cases (sound b)
     (λ s. rw s (answers-any b line s .promise (sym s)))
