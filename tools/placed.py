@@ -50,7 +50,8 @@ for n, S in T:
     ten = "length (r .values) ≡ 10 → " if n == "row" else ""
     v = "v " if n == "row" else ""
     out += f"""
-pub {n}-placed : (b : List ℕ) (i : ℕ) (r : {S}) → i < {n}Places → {ten}Hold {n}Widths ({n}Numbers r) → length b ≡ bookSize → ({n}Zero r || within 1 8 (r .csd)) ≡ true → allPlaced b ≡ true → allPlaced (put{P} b i r) ≡ true
+pub {n}-placed : (b : List ℕ) (i : ℕ) (r : {S}) → i < {n}Places → {ten}Hold {n}Widths ({n}Numbers r)
+    → length b ≡ bookSize → ({n}Zero r || within 1 8 (r .csd)) ≡ true → allPlaced b ≡ true → allPlaced (put{P} b i r) ≡ true
 unfolding allPlaced
 {n}-placed b i r l {v}h s o e =
     four _ _ _ _
