@@ -2,6 +2,7 @@
 """Writes what differs between the tables only in sizes and names: the structs and reading (crates/places), storing (crates/stores).
 Usage: places.py (in the repository's root), then rt fmt. The one place where the layout is written; docs/LAYOUT.md says it in words."""
 import os
+from wrap import wrap
 
 # struct, name, places, quota, fields: name and bytes; values: bytes of each of an array's numbers
 TABLES = [
@@ -30,7 +31,7 @@ S = "crates/stores"
 
 def write(path, text):
     os.makedirs(os.path.dirname(path), exist_ok=True)
-    open(path, "w").write(text)
+    open(path, "w").write(wrap(text))
 
 def flat(fields):
     """each number: the field, its place in an array or none, its bytes, its offset"""
