@@ -1,18 +1,24 @@
 -- What the returns of some functions must show, over plain values, so that a wrong one is refused for certain.
 use Prim.Native.Nat.{ℕ}
-use mathlib.Core.Path.{_≡_}
+use mathlib.Core.Path.{_≡_, sym, ap}
 use mathlib.Core.Bool.{Bool, true, _&&_, not}
+use mathlib.Core.List.{List}
 use lib.Dec.{eqb, leb}
+use lib.ListN.{length, getD}
 use Rattle.tables.specs.Count.{every}
 use Rattle.meaning.specs.Fields.{within}
-use Rattle.meaning.specs.Forms.{isDay, code, holds, holdsAll, tenValues}
+use Rattle.meaning.specs.Forms.{isDay, code, holds, holdsAll, optional, upTo, tenValues}
 use Rattle.meaning.specs.Sound.{daysFit, keyFits, typeFits, ruleFits, rowFits, periodFits}
+use Rattle.places.proofs.Stores.{ten}
 use Rattle.places.specs.declared.RestrictionType.{RestrictionType}
 use Rattle.places.specs.declared.Rule.{Rule}
 use Rattle.places.specs.declared.Row.{Row}
 use Rattle.places.specs.declared.Period.{Period}
 use Rattle.records.specs.Said.{typeOf, ruleOf, rowOf, periodOf}
-use Rattle.records.specs.Free.{allZero, typeZero, ruleZero, periodZero}
+use Rattle.records.specs.Criteria.{filledCount}
+use Rattle.records.specs.Free.{allZero, typeZero, ruleZero, rowZero, periodZero}
+use Rattle.records.proofs.Filled.{none-filled}
+use Rattle.ranges.specs.Values.{codesFit, namesFit}
 
 pub days-said : (first last : ℕ) {r d e f : Bool} → r ≡ (d && e) → e ≡ (f && leb first last) → f ≡ isDay last → d ≡ isDay first → r ≡ daysFit first last
 unfolding daysFit holds
@@ -50,3 +56,14 @@ pub period-free : (t : Period) {r k n c f l : Bool} → r ≡ (eqb (t .csd) 0 &&
     → f ≡ (eqb (t .first) 0 && l) → l ≡ (eqb (t .last) 0 && true) → r ≡ periodZero t
 unfolding periodZero allZero every
 period-free t a b c d e f = rw (a, b, c, d, e, f)
+
+-- ---- the ten values of a row
+
+-- each value by its form
+pub ten-fit : (v : List ℕ) (n p0 p1 p2 x y z : Bool) → length v ≡ 10 → n ≡ namesFit v → p0 ≡ holds (optional (upTo 3)) (getD v 0 0) → p1 ≡ holds (optional (upTo 2)) (getD v 1 0) → p2 ≡ holds (optional (upTo 2)) (getD v 2 0) → x ≡ (p2 && n) → y ≡ (p1 && x) → z ≡ (p0 && y) → z ≡ holdsAll tenValues v
+unfolding holds holdsAll namesFit codesFit
+ten-fit v n p0 p1 p2 x y z e f h0 h1 h2 g h i = rw (i, h, g, f, h0, h1, h2) (ap (holdsAll tenValues) (ten v e))
+
+pub zero-ten : (r : Row) (n : ℕ) (x y z u : Bool) → length (r .values) ≡ 10 → n ≡ filledCount (r .values) → x ≡ (eqb (r .sequence) 0 && eqb n 0) → y ≡ (eqb (r .object) 0 && x) → z ≡ (eqb (r .number) 0 && y) → u ≡ (eqb (r .csd) 0 && z) → u ≡ rowZero r
+unfolding rowZero allZero every
+zero-ten r n x y z u e f g h i j = rw (j, i, h, g, f, none-filled (r .values)) (ap (λ v. eqb (r .csd) 0 && (eqb (r .number) 0 && (eqb (r .object) 0 && (eqb (r .sequence) 0 && every (λ n. eqb n 0) v)))) (sym (ten (r .values) e)))

@@ -6,17 +6,17 @@ ghost use Rattle.meaning.specs.Sound.{daysFit, keyFits, typeFits, ruleFits, row
 ghost use Rattle.records.specs.Said.{typeOf, ruleOf, rowOf, periodOf};
 ghost use Rattle.records.specs.Free.{typeZero, ruleZero, rowZero, periodZero};
 ghost use Rattle.ranges.specs.Values.{codesFit, namesFit};
+use basics::and;
+use basics::byte_within;
+use basics::no;
+use basics::or;
+use basics::within;
 use days::is_day;
 use places::Period;
 use places::RestrictionType;
 use places::Row;
 use places::Rule;
-use records::and;
 use records::filled_count;
-use records::inside;
-use records::no;
-use records::or;
-use records::small;
 
 // ---- Ranges (document 01, 'Lines').
 
@@ -30,7 +30,7 @@ fn days_fit(first: u32, last: u32) -> bool
 fn key_fits(number: u8, object: u8) -> bool
     ensures { λ r. ⌜ r ≡ keyFits number object ⌝ }
 {
-    and(small(1, number, 99), small(1, object, 2))
+    and(byte_within(1, 99, number), byte_within(1, 2, object))
 }
 
 // Processing 3 is of object 1 only.
@@ -41,22 +41,22 @@ pub fn type_fits(t: RestrictionType) -> bool
     let days = days_fit(t.first, t.last);
     and(
         key_fits(t.number, t.object),
-        and(and(small(1, t.processing, 3), held), days),
+        and(and(byte_within(1, 3, t.processing), held), days),
     )
 }
 
 pub fn rule_fits(t: Rule) -> bool
     ensures { λ r. ⌜ r ≡ ruleFits (ruleOf t) ⌝ }
 {
-    let key = and(key_fits(t.number, t.object), small(1, t.sequence, 99));
-    let says = and(small(1, t.sign, 2), inside(1, t.criteria, 1023));
+    let key = and(key_fits(t.number, t.object), byte_within(1, 99, t.sequence));
+    let says = and(byte_within(1, 2, t.sign), within(1, 1023, t.criteria));
     and(key, and(says, days_fit(t.first, t.last)))
 }
 
 fn capital(n: u32) -> bool
     ensures { λ r. ⌜ r ≡ isCapital n ⌝ }
 {
-    inside(65, n, 90)
+    within(65, 90, n)
 }
 
 // The number of three capital letters, and of four.
@@ -77,7 +77,7 @@ fn four_letters(n: u32) -> bool
 fn is_code(n: u32) -> bool
     ensures { λ r. ⌜ r ≡ holds code n ⌝ }
 {
-    and(inside(1, n / 100, 99), inside(1, n % 100, 99))
+    and(within(1, 99, n / 100), within(1, 99, n % 100))
 }
 
 // A value of a row is 0 where it is empty.
@@ -85,7 +85,7 @@ fn is_code(n: u32) -> bool
 fn up_to_or(n: u32, most: u32) -> bool
     ensures { λ r. ⌜ r ≡ holds (optional (upTo most)) n ⌝ }
 {
-    or(n == 0, inside(1, n, most))
+    or(n == 0, within(1, most, n))
 }
 
 fn code_or(n: u32) -> bool
@@ -133,14 +133,14 @@ pub fn row_fits(t: Row) -> bool
     ensures { λ r. ⌜ r ≡ rowFits (rowOf t) ⌝ }
 {
     let v = t.values;
-    let rule = and(key_fits(t.number, t.object), small(1, t.sequence, 99));
+    let rule = and(key_fits(t.number, t.object), byte_within(1, 99, t.sequence));
     and(rule, values_fit(v))
 }
 
 pub fn period_fits(t: Period) -> bool
     ensures { λ r. ⌜ r ≡ periodFits (periodOf t) ⌝ }
 {
-    let of = and(small(1, t.kind, 3), inside(1, t.number, 999999));
+    let of = and(byte_within(1, 3, t.kind), within(1, 999999, t.number));
     and(of, and(is_code(t.code), days_fit(t.first, t.last)))
 }
 

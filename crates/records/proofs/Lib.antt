@@ -1,5 +1,6 @@
 pub mod RecordReturns
 pub mod Ten
+pub mod Differences
 pub mod Filled
 pub mod Meets
 pub mod Nobody

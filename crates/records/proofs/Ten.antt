@@ -1,13 +1,11 @@
 -- The ten values of a row: a list of ten is its ten elements, so that what is said of a list is what the code says of each.
 use Prim.Native.Nat.{ℕ, _+_}
 use mathlib.Core.Path.{_≡_, _∙_, ap, ap₂}
-use mathlib.Core.Bool.{Bool, true, _&&_}
 use mathlib.Core.List.{List, [], _∷_}
 use native.Mathlib.Omega.{arith}
-use lib.Dec.{eqb, ltb}
+use lib.Dec.{ltb}
 use lib.ListN.{length, getD}
 use Rattle.tables.specs.Count.{bit, count}
-use Rattle.meaning.specs.Text.{same}
 use Rattle.places.proofs.Stores.{ten}
 use Rattle.records.specs.Criteria.{filledCount}
 
@@ -26,6 +24,3 @@ explicit-count v = omega arith
 
 pub count-ten : (v : List ℕ) (low high : ℕ) → length v ≡ 10 → low ≡ five v 0 → high ≡ five v 5 → low + high ≡ filledCount v
 count-ten v low high e l h = ap₂ (λ x y. x + y) l h ∙ explicit-count v ∙ ap filledCount (ten v e)
-
-pub same-ten : (u v : List ℕ) (r s : Bool) → length u ≡ 10 → length v ≡ 10 → r ≡ (eqb (getD u 5 0) (getD v 5 0) && (eqb (getD u 6 0) (getD v 6 0) && (eqb (getD u 7 0) (getD v 7 0) && (eqb (getD u 8 0) (getD v 8 0) && (eqb (getD u 9 0) (getD v 9 0) && true))))) → s ≡ (eqb (getD u 0 0) (getD v 0 0) && (eqb (getD u 1 0) (getD v 1 0) && (eqb (getD u 2 0) (getD v 2 0) && (eqb (getD u 3 0) (getD v 3 0) && (eqb (getD u 4 0) (getD v 4 0) && r))))) → s ≡ same u v
-same-ten u v r s e f g h = h ∙ ap (λ t. eqb (getD u 0 0) (getD v 0 0) && (eqb (getD u 1 0) (getD v 1 0) && (eqb (getD u 2 0) (getD v 2 0) && (eqb (getD u 3 0) (getD v 3 0) && (eqb (getD u 4 0) (getD v 4 0) && t))))) g ∙ ap₂ same (ten u e) (ten v f)

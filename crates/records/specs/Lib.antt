@@ -1,4 +1,5 @@
 pub mod Said
 pub mod Criteria
+pub mod Values
 pub mod Asks
 pub mod Free

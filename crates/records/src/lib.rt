@@ -1,6 +1,5 @@
 // What is asked of one record by value, and the tests that others use.
 ghost use mathlib.Core.Path.{_≡_};
-ghost use mathlib.Core.Bool.{_||_, _&&_, not};
 ghost use Prim.Native.Nat.{_+_, _≤_};
 ghost use lib.Dec.{eqb, ltb};
 ghost use Rattle.tables.specs.Count.{bit, allBelow};
@@ -10,7 +9,12 @@ ghost use Rattle.meaning.specs.Text.{same};
 ghost use Rattle.meaning.specs.Refusals.{outside};
 ghost use Rattle.records.specs.Said.{typeOf, ruleOf, rowOf, periodOf};
 ghost use Rattle.records.specs.Criteria.{belongs, agrees, filledCount};
+ghost use Rattle.records.specs.Values.{firstDifference};
 ghost use Rattle.records.specs.Asks.{typeMeets, ruleMeets, rowMeets, periodMeets};
+pub use basics::and;
+pub use basics::no;
+pub use basics::one_if;
+pub use basics::or;
 use places::Period;
 use places::RestrictionType;
 use places::Row;
@@ -46,44 +50,6 @@ pub enum PeriodAsk {
     Clash(Period),
     Named(u8, u32, u32, u32),
     Outside(u8, u32, u32, u32, u32),
-}
-
-// ---- Tests, without branches for whoever calls them.
-
-pub fn and(a: bool, b: bool) -> bool
-    ensures { λ r. ⌜ r ≡ (a && b) ⌝ }
-{
-    if a { b } else { false }
-}
-
-pub fn or(a: bool, b: bool) -> bool
-    ensures { λ r. ⌜ r ≡ (a || b) ⌝ }
-{
-    if a { true } else { b }
-}
-
-pub fn no(a: bool) -> bool
-    ensures { λ r. ⌜ r ≡ not a ⌝ }
-{
-    if a { false } else { true }
-}
-
-pub fn one_if(a: bool) -> u16
-    ensures { λ r. ⌜ (r ≡ bit a) × (r ≤ 1) ⌝ }
-{
-    if a { 1 } else { 0 }
-}
-
-pub fn inside(low: u32, x: u32, high: u32) -> bool
-    ensures { λ r. ⌜ r ≡ within low high x ⌝ }
-{
-    and(low <= x, x <= high)
-}
-
-pub fn small(low: u8, x: u8, high: u8) -> bool
-    ensures { λ r. ⌜ r ≡ within low high x ⌝ }
-{
-    and(low <= x, x <= high)
 }
 
 // ---- The criteria that a row fills (document 01, 'Records').
@@ -210,56 +176,23 @@ pub fn rule_meets(t: Rule, q: RuleAsk, w: Row) -> bool
     }
 }
 
-fn same_five(
-    a0: u32,
-    b0: u32,
-    a1: u32,
-    b1: u32,
-    a2: u32,
-    b2: u32,
-    a3: u32,
-    b3: u32,
-    a4: u32,
-    b4: u32,
-    rest: bool,
-) -> bool
-    ensures { λ r. ⌜ r ≡ (eqb a0 b0 && (eqb a1 b1 && (eqb a2 b2 && (eqb a3 b3 && (eqb a4 b4 && rest))))) ⌝ }
+// The lowest index at which two rows' values differ, 10 where they are the same.
+pub fn first_difference(a: [u32; 10], b: [u32; 10]) -> u8
+    ensures { λ r. ⌜ r ≡ firstDifference a b ⌝ }
 {
-    and(
-        a0 == b0,
-        and(a1 == b1, and(a2 == b2, and(a3 == b3, and(a4 == b4, rest)))),
-    )
+    for i in 0..10 {
+        let k = i as usize;
+        if a[k] != b[k] {
+            return i;
+        }
+    }
+    10
 }
 
 fn same_values(a: [u32; 10], b: [u32; 10]) -> bool
     ensures { λ r. ⌜ r ≡ same a b ⌝ }
 {
-    let rest = same_five(
-        a[5],
-        b[5],
-        a[6],
-        b[6],
-        a[7],
-        b[7],
-        a[8],
-        b[8],
-        a[9],
-        b[9],
-        true,
-    );
-    same_five(
-        a[0],
-        b[0],
-        a[1],
-        b[1],
-        a[2],
-        b[2],
-        a[3],
-        b[3],
-        a[4],
-        b[4],
-        rest,
-    )
+    first_difference(a, b) == 10
 }
 
 fn of_rule(t: Row, w: Row) -> bool
@@ -330,4 +263,18 @@ pub fn period_meets(t: Period, q: PeriodAsk) -> bool
             period_outside(t, kind, number, code, first, last)
         }
     }
+}
+
+// ---- Kept for crates that do not yet use `basics` (`within`, `byte_within`).
+
+pub fn inside(low: u32, x: u32, high: u32) -> bool
+    ensures { λ r. ⌜ r ≡ within low high x ⌝ }
+{
+    basics::within(low, high, x)
+}
+
+pub fn small(low: u8, x: u8, high: u8) -> bool
+    ensures { λ r. ⌜ r ≡ within low high x ⌝ }
+{
+    basics::byte_within(low, high, x)
 }

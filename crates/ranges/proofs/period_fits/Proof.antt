@@ -23,5 +23,5 @@ period-fits-spec =
     (c .before .before .days-fit .ensures)
     (c .before .before .before .is-code .ensures)
     (of .and .ensures)
-    (of .before .inside .ensures)
-    (of .before .before .small .ensures)))
+    (of .before .within .ensures)
+    (of .before .before .byte-within .ensures)))

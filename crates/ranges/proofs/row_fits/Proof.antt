@@ -18,5 +18,5 @@ row-fits-spec =
     (c .and2 .ensures)
     (c .before .values-fit .ensures)
     (c .before .before .and .ensures)
-    (c .before .before .before .small .ensures)
+    (c .before .before .before .byte-within .ensures)
     (c .before .before .before .before .key-fits .ensures)))

@@ -1,5 +1,5 @@
 -- `ranges::row_zero` meets its contract. Assumes nothing.
-use Rattle.ranges.proofs.Ten.{zero-ten}
+use Rattle.ranges.proofs.RangeReturns.{zero-ten}
 use borrow.Author.Needs.{needs}
 use Rattle.ranges.proofs.row_zero.Statement.{statement}
 use Rattle.ranges.proofs.row_zero.Tie as tie

@@ -23,7 +23,7 @@ type-fits-spec =
     (c .and4 .ensures)
     (c .before .and3 .ensures)
     (c .before .before .and2 .ensures)
-    (said .small .ensures)
+    (said .byte-within .ensures)
     (said .before .key-fits .ensures)
     (said .before .before .days-fit .ensures)
     (held .no .ensures)

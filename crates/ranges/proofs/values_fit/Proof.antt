@@ -1,6 +1,6 @@
 -- `ranges::values_fit` meets its contract. Assumes nothing.
 use Rattle.meaning.specs.Forms.{holds}
-use Rattle.ranges.proofs.Ten.{ten-fit}
+use Rattle.ranges.proofs.RangeReturns.{ten-fit}
 use borrow.Author.Needs.{needs}
 use Rattle.ranges.proofs.values_fit.Statement.{statement}
 use Rattle.ranges.proofs.values_fit.Tie as tie

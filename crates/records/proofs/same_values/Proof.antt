@@ -1,6 +1,6 @@
 -- `records::same_values` meets its contract. Assumes nothing.
-use Rattle.records.proofs.Ten.{same-ten}
 use borrow.Author.Needs.{needs}
+use Rattle.records.proofs.Differences.{same-first}
 use Rattle.records.proofs.same_values.Statement.{statement}
 use Rattle.records.proofs.same_values.Tie as tie
 
@@ -8,26 +8,5 @@ pub same-values-spec : {M : Type 1} → statement M
 same-values-spec =
     tie.close
     (tie.spec
-    (λ c. search needs)
-    (λ c. search needs)
-    (λ c. search needs)
-    (λ c. search needs)
-    (λ c. search needs)
-    (λ c. search needs)
-    (λ c. search needs)
-    (λ c. search needs)
-    (λ c. search needs)
-    (λ c. search needs)
     (λ c κs. search needs)
-    (λ c. search needs)
-    (λ c. search needs)
-    (λ c. search needs)
-    (λ c. search needs)
-    (λ c. search needs)
-    (λ c. search needs)
-    (λ c. search needs)
-    (λ c. search needs)
-    (λ c. search needs)
-    (λ c. search needs)
-    (λ c κs. search needs)
-    (λ c. search same-ten))
+    (λ c. search same-first))
