@@ -7,13 +7,14 @@ use lib.ListN.{length}
 use Rattle.tables.specs.Keyed.{marked}
 use Rattle.tables.proofs.Keying.{keyed-marks}
 use Rattle.meaning.specs.declared.Verdict.{Verdict}
+use Rattle.places.specs.Layout.{rowPlaces}
 use Rattle.matching.specs.MatchedRows.{ruleKeys, codesBorne, rowsMatched, RowsMarked}
 use Rattle.judge.specs.Stages.{rulesMatched, signsMatched, typesNamed, verdict, judgedBy}
 use Rattle.matching.specs.declared.Question.{Question}
 
 by-rows : (b : List ℕ) (q : Question) (codes : ℕ → Bool) (rows : List ℕ) → RowsMarked ruleKeys b q codes rows → marked rows ≡ rowsMatched b q codes
 unfolding rowsMatched
-by-rows b q codes rows m = keyed-marks _ _ _ _ _ _ rows 1024 1024 m refl
+by-rows b q codes rows m = keyed-marks _ _ _ _ _ _ rows rowPlaces rowPlaces m refl
 
 pub by-stages : (b : List ℕ) (q : Question) (space rows : List ℕ) (signs : ℕ → Bool) (named : ℕ → ℕ) (r : Verdict) → r ≡ verdict (rulesMatched b q (marked rows)) named → named ≡ typesNamed b q signs → signs ≡ signsMatched b q (marked rows) → RowsMarked (length space) b q (codesBorne b q) rows → length space ≡ ruleKeys → r ≡ judgedBy b q
 unfolding judgedBy

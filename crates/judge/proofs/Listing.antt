@@ -15,7 +15,7 @@ use Rattle.rules.specs.declared.ListedRule.{ListedRule}
 use Rattle.rules.specs.declared.First.{First}
 use Rattle.rules.specs.declared.First.the-variants.{At, Nothing}
 use Rattle.rules.proofs.Rising.{rising}
-use Rattle.judge.specs.Stages.{signKey, judgedRule, noneListed, Listed, firstRule}
+use Rattle.judge.specs.Stages.{sequences, signKey, judgedRule, noneListed, Listed, firstRule}
 
 module _ (rules : ℕ → Bool) where
   pub judged-by : (s sign kp kn : ℕ) (p n m : Bool) → m ≡ (p || n) → sign ≡ cond p positive negative → n ≡ rules kn → kn ≡ signKey s negative → p ≡ rules kp → kp ≡ signKey s positive → record { sequence = s; sign = sign; matches = m } ≡ judgedRule rules s
@@ -26,12 +26,12 @@ module _ (rules : ℕ → Bool) where
   pub listed-none : (t : List ListedRule) → t ≡ noneListed → Listed rules 1 t
   unfolding noneListed
   listed-none t e = record {
-    long = ap length e ∙ length-replicate 100 noRule;
-    none = ap (λ l. getD l 0 noRule) e ∙ getD-replicate 100 0 noRule noRule (omega arith);
+    long = ap length e ∙ length-replicate sequences noRule;
+    none = ap (λ l. getD l 0 noRule) e ∙ getD-replicate sequences 0 noRule noRule (omega arith);
     each = λ s o l. absurd (omega arith);
   }
 
-  pub listed-more : (t u : List ListedRule) (s : ℕ) (r : ListedRule) → u ≡ set t s r → r ≡ judgedRule rules s → Listed rules s t → 1 ≤ s → s < 100 → Listed rules (s + 1) u
+  pub listed-more : (t u : List ListedRule) (s : ℕ) (r : ListedRule) → u ≡ set t s r → r ≡ judgedRule rules s → Listed rules s t → 1 ≤ s → s < sequences → Listed rules (s + 1) u
   listed-more t u s r eu er m o l = record {
     long = ap length eu ∙ length-set t s r ∙ m .long;
     none = ap (λ l. getD l 0 noRule) eu ∙ getD-set-other t s 0 r noRule (λ z. omega arith) ∙ m .none;
@@ -49,7 +49,7 @@ module _ (rules : ℕ → Bool) where
   may true b = refl
   may false b = refl
 
-  firsts : (t : List ListedRule) → Listed rules 100 t → sequenceOf (firstPositive t) ≡ firstRule rules
+  firsts : (t : List ListedRule) → Listed rules sequences t → sequenceOf (firstPositive t) ≡ firstRule rules
   unfolding firstRule
   firsts t m =
       rising t (λ s. rules (signKey s positive)) (ap mayDecide (m .none))
@@ -58,8 +58,8 @@ module _ (rules : ℕ → Bool) where
       (omega (arith, m .long))
       ∙ ap (leastBelow (λ s. cond (rules (signKey s positive)) s 0)) (m .long)
 
-  pub first-at : (t : List ListedRule) (f : First) (s : ℕ) → f ≡ At s → f ≡ firstPositive t → Listed rules 100 t → s ≡ firstRule rules
+  pub first-at : (t : List ListedRule) (f : First) (s : ℕ) → f ≡ At s → f ≡ firstPositive t → Listed rules sequences t → s ≡ firstRule rules
   first-at t f s e d m = ap sequenceOf (sym e ∙ d) ∙ firsts t m
 
-  pub first-nothing : (t : List ListedRule) (f : First) → f ≡ Nothing → f ≡ firstPositive t → Listed rules 100 t → 0 ≡ firstRule rules
+  pub first-nothing : (t : List ListedRule) (f : First) → f ≡ Nothing → f ≡ firstPositive t → Listed rules sequences t → 0 ≡ firstRule rules
   first-nothing t f e d m = ap sequenceOf (sym e ∙ d) ∙ firsts t m

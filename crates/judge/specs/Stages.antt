@@ -14,7 +14,7 @@ use Rattle.meaning.specs.Records.{positive, negative, rejection, validationHold
 use Rattle.meaning.specs.Judging.{covers, by}
 use Rattle.meaning.specs.declared.Deciding.{Deciding}
 use Rattle.meaning.specs.declared.Verdict.{Verdict}
-use Rattle.places.specs.Layout.{typeAt, ruleAt}
+use Rattle.places.specs.Layout.{typePlaces, rulePlaces, typeAt, ruleAt}
 use Rattle.places.specs.declared.RestrictionType.{RestrictionType}
 use Rattle.places.specs.declared.Rule.{Rule}
 use Rattle.rules.specs.Search.{noRule}
@@ -46,6 +46,13 @@ signKeys = 300
 abbrev pub typeKeys : ℕ
 typeKeys = 300
 
+-- processings are 1 to 3, sequences 1 to 99
+abbrev pub processings : ℕ
+processings = 4
+
+abbrev pub sequences : ℕ
+sequences = 100
+
 -- ---- 3. the signs of which a rule of a type matches
 
 unfoldable pub ruleMatches : Question → (ℕ → Bool) → Rule → Bool
@@ -59,7 +66,7 @@ markSign b q rows i t =
 
 unfoldable pub signsMatched : List ℕ → Question → (ℕ → Bool) → ℕ → Bool
 signsMatched b q rows =
-    keys (λ r. r .csd) (q .csd) (ruleAt b) typedKey (ruleMatches q rows) typeKeys 512
+    keys (λ r. r .csd) (q .csd) (ruleAt b) typedKey (ruleMatches q rows) typeKeys rulePlaces
 
 -- ---- 4. the lowest type of each processing
 
@@ -76,7 +83,7 @@ nameType b q signs i n =
 
 unfoldable pub typesNamed : List ℕ → Question → (ℕ → Bool) → ℕ → ℕ
 typesNamed b q signs =
-    leasts (λ t. t .csd) (q .csd) (typeAt b) (λ t. t .processing) (typeApplies q signs) (λ t. t .number) 4 128
+    leasts (λ t. t .csd) (q .csd) (typeAt b) (λ t. t .processing) (typeApplies q signs) (λ t. t .number) processings typePlaces
 
 -- ---- 5. the rules of a type that is named, looked through in rising sequence
 
@@ -92,7 +99,7 @@ markRule b q rows type i t =
 
 unfoldable pub rulesMatched : List ℕ → Question → (ℕ → Bool) → ℕ → ℕ → Bool
 rulesMatched b q rows type =
-    keys (λ r. r .csd) (q .csd) (ruleAt b) signedKey (ruleOfType q rows type) signKeys 512
+    keys (λ r. r .csd) (q .csd) (ruleAt b) signedKey (ruleOfType q rows type) signKeys rulePlaces
 
 -- the type's rule at a sequence, by the marks of its two signs; a sound book has one rule there at most
 abbrev pub judgedRule : (ℕ → Bool) → ℕ → ListedRule
@@ -104,17 +111,17 @@ judgedRule rules s = record {
 
 -- no rule at any sequence
 unfoldable pub noneListed : List ListedRule
-noneListed = replicate 100 noRule
+noneListed = replicate sequences noRule
 
 -- the rules of a type below sequence n, each at the place of its sequence; no rule has sequence 0
 pub record Listed (rules : ℕ → Bool) (n : ℕ) (t : List ListedRule) : Type 0 where
-  pub long : length t ≡ 100
+  pub long : length t ≡ sequences
   pub none : getD t 0 noRule ≡ noRule
   pub each : (s : ℕ) → 1 ≤ s → s < n → getD t s noRule ≡ judgedRule rules s
 
 -- the first positive rule of the type that matches, 0 where none does
 unfoldable pub firstRule : (ℕ → Bool) → ℕ
-firstRule rules = leastBelow (λ s. cond (rules (signKey s positive)) s 0) 100
+firstRule rules = leastBelow (λ s. cond (rules (signKey s positive)) s 0) sequences
 
 -- ---- the verdict
 

@@ -1,16 +1,20 @@
 // The verdict on a question over the lent book (document 01, 'How a question is judged'), by the marks of the rules of which a row matches (crate `matching`, stages 1 and 2): a pass over
 // the rules, one over the types, and one over the rules for each type that the verdict names. A pass goes from each place of the depository to its next.
 ghost use mathlib.Core.Path.{_≡_};
-ghost use mathlib.Core.Bool.{cond};
 ghost use lib.ListN.{length, getD};
 ghost use Rattle.matching.specs.MatchedRows.{ruleKeys};
 ghost use Rattle.tables.specs.Count.{lesser};
 ghost use Rattle.tables.specs.Keyed.{marked, Blank};
-ghost use Rattle.judge.specs.Stages.{signKey, typeKey, signKeys, typeKeys, ruleMatches, ruleOfType, markRule, rulesMatched, markSign, signsMatched, typeApplies, nameType, typesNamed, judgedRule, noneListed, Listed, firstRule, decided, verdict, judgedBy};
+ghost use Rattle.judge.specs.Stages.{signKey, typeKey, signKeys, typeKeys, processings, sequences, ruleMatches, ruleOfType, markRule, rulesMatched, markSign, signsMatched, typeApplies, nameType, typesNamed, judgedRule, noneListed, Listed, firstRule, decided, verdict, judgedBy};
+use basics::and;
+use basics::no;
+use basics::or;
+use basics::pick_byte;
 use marks::is_marked;
 use marks::look;
 use marks::store;
 use matching::Question;
+use matching::RULE_KEYS;
 use matching::covers;
 use matching::mark_rules;
 use matching::rule_key;
@@ -20,17 +24,17 @@ use owners::next_rule;
 use owners::next_type;
 use places::RestrictionType;
 use places::Rule;
-use records::and;
-use records::no;
-use records::or;
 use rules::First;
 use rules::ListedRule;
 
-fn pick(a: bool, x: u8, y: u8) -> u8
-    ensures { λ r. ⌜ r ≡ cond a x y ⌝ }
-{
-    if a { x } else { y }
-}
+// The sizes of the tables of marks, by their keys, and of the list of a type's rules, by sequence.
+const SIGN_KEYS: usize = 300;
+
+const TYPE_KEYS: usize = 300;
+
+const PROCESSINGS: usize = 4;
+
+const SEQUENCES: u8 = 100;
 
 // The smaller of two numbers, where 0 stands for none.
 fn lesser(a: u8, b: u8) -> u8
@@ -67,29 +71,29 @@ fn processing_key(processing: u8) -> usize
 
 // Tables without a mark, each in a function of its own, so that no proof shows its cells.
 
-fn row_space() -> [u8; 10000]
+fn row_space() -> [u8; RULE_KEYS]
     ensures { λ r. ⌜ length r ≡ ruleKeys ⌝ }
 {
-    [0; 10000]
+    [0; RULE_KEYS]
 }
 
-fn no_rules() -> [u8; 300]
+fn no_rules() -> [u8; SIGN_KEYS]
     ensures { λ r. ⌜ Blank signKeys r ⌝ }
 {
-    [0; 300]
+    [0; SIGN_KEYS]
 }
 
-fn no_signs() -> [u8; 300]
+fn no_signs() -> [u8; TYPE_KEYS]
     ensures { λ r. ⌜ Blank typeKeys r ⌝ }
 {
-    [0; 300]
+    [0; TYPE_KEYS]
 }
 
 // No type for any processing, 0 to 3.
-fn no_types() -> [u8; 4]
-    ensures { λ r. ⌜ Blank 4 r ⌝ }
+fn no_types() -> [u8; PROCESSINGS]
+    ensures { λ r. ⌜ Blank processings r ⌝ }
 {
-    [0; 4]
+    [0; PROCESSINGS]
 }
 
 // The lower of a number and the entry at a key, where 0 stands for none.
@@ -121,7 +125,7 @@ fn mark_sign(t: &mut [u8], b: &[u8], q: Question, rows: &[u8], i: u16)
     }
 }
 
-fn signs_matched(b: &[u8], q: Question, rows: &[u8]) -> [u8; 300]
+fn signs_matched(b: &[u8], q: Question, rows: &[u8]) -> [u8; TYPE_KEYS]
     ensures { λ r. ⌜ marked r ≡ signsMatched (now (b .entry)) q (marked (now (rows .entry))) ⌝ }
 {
     let mut t = no_signs();
@@ -164,7 +168,7 @@ fn name_type(t: &mut [u8], b: &[u8], q: Question, signs: &[u8], i: u16)
     }
 }
 
-fn types_named(b: &[u8], q: Question, signs: &[u8]) -> [u8; 4]
+fn types_named(b: &[u8], q: Question, signs: &[u8]) -> [u8; PROCESSINGS]
     ensures { λ r. ⌜ (λ k. getD r k 0) ≡ typesNamed (now (b .entry)) q (marked (now (signs .entry))) ⌝ }
 {
     let mut t = no_types();
@@ -223,13 +227,13 @@ fn judged_rule(rules: &[u8], sequence: u8) -> ListedRule
     let negative = is_marked(rules, sign_key(s, 2));
     ListedRule {
         sequence,
-        sign: pick(positive, 1, 2),
+        sign: pick_byte(positive, 1, 2),
         matches: or(positive, negative),
     }
 }
 
 // A list without a rule.
-fn none_listed() -> [ListedRule; 100]
+fn none_listed() -> [ListedRule; SEQUENCES as usize]
     ensures { λ r. ⌜ r ≡ noneListed ⌝ }
 {
     let none = ListedRule {
@@ -237,15 +241,15 @@ fn none_listed() -> [ListedRule; 100]
         sign: 0,
         matches: false,
     };
-    [none; 100]
+    [none; SEQUENCES as usize]
 }
 
 // The rules of a type, each at the place of its sequence. No rule has sequence 0.
-fn rules_listed(rules: &[u8]) -> [ListedRule; 100]
-    ensures { λ r. ⌜ Listed (marked (now (rules .entry))) 100 r ⌝ }
+fn rules_listed(rules: &[u8]) -> [ListedRule; SEQUENCES as usize]
+    ensures { λ r. ⌜ Listed (marked (now (rules .entry))) sequences r ⌝ }
 {
     let mut t = none_listed();
-    for s in 1..100 {
+    for s in 1..SEQUENCES {
         t[s as usize] = judged_rule(rules, s);
     }
     t
@@ -292,8 +296,8 @@ fn verdict(b: &[u8], q: Question, rows: &[u8], named: &[u8]) -> Verdict
 {
     let rejecting = look(named, 1);
     let accepted = rejecting == 0;
-    let validation = pick(accepted, look(named, 2), 0);
-    let party = pick(accepted, look(named, 3), 0);
+    let validation = pick_byte(accepted, look(named, 2), 0);
+    let party = pick_byte(accepted, look(named, 3), 0);
     Verdict {
         rejected: no(accepted),
         rejection: decided(b, q, rows, rejecting),

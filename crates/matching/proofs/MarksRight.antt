@@ -16,10 +16,10 @@ use Rattle.meaning.specs.Records.{party, account, security}
 use Rattle.meaning.specs.Keys.{ofRule}
 use Rattle.meaning.specs.Judging as meant
 use Rattle.meaning.specs.Judging.{covers, meetsAll, hasCode}
-use Rattle.places.specs.Layout.{rowAt, periodAt}
+use Rattle.places.specs.Layout.{rowPlaces, periodPlaces, rowAt, periodAt}
 use Rattle.records.specs.Said.{rowOf, periodOf}
 use Rattle.book.specs.Lone.{rowsOf, periodsOf, loneBook}
-use Rattle.matching.specs.MatchedRows.{asked, codeKey, ruleKey, periodKey, rowKey, codeKeys, ruleKeys, sought, borneBy, codesBorne, tests, rowMatches, rowsMatched}
+use Rattle.matching.specs.MatchedRows.{questionOf, codeKey, ruleKey, periodKey, rowKey, codeKeys, ruleKeys, sought, borneBy, codesBorne, tests, rowMatches, rowsMatched}
 use Rattle.matching.specs.declared.Question.{Question}
 use Rattle.matching.proofs.Ranged.{Ranged}
 use Rattle.matching.proofs.RowValues.{row-met}
@@ -43,12 +43,12 @@ module _ (b : List ℕ) (q : Question) (r : Ranged (q .csd) b) where
   lone = loneBook (q .csd) b
 
   -- 1. A marked code is one that the question's party, account or security has.
-  codes : (kind : ℕ) → kind < 4 → (v : ℕ) → codesBorne b q (codeKey v kind) ≡ hasCode lone (asked q) kind (sought q kind) v
+  codes : (kind : ℕ) → kind < 4 → (v : ℕ) → codesBorne b q (codeKey v kind) ≡ hasCode lone (questionOf q) kind (sought q kind) v
   unfolding lone codesBorne borneBy hasCode periodsOf periodOf
   codes kind low v =
-      keys-all codeKeys (λ p. p .csd) (q .csd) (periodAt b) periodKey (borneBy q) 1024
+      keys-all codeKeys (λ p. p .csd) (q .csd) (periodAt b) periodKey (borneBy q) periodPlaces
       (λ i l o e. let x = r .periods i l o in omega (arith, x .0, x .1)) (codeKey v kind)
-      ∙ any-same _ _ 1024
+      ∙ any-same _ _ periodPlaces
       (λ i l.
       cases (eqb (periodAt b i .csd) (q .csd))
       (λ e.
@@ -58,10 +58,10 @@ module _ (b : List ℕ) (q : Question) (r : Ranged (q .csd) b) where
       (covers (periodAt b i .first) (periodAt b i .last) (q .day)) (eqb (periodAt b i .kind) kind) (eqb (periodAt b i .code) v)
       (λ z. ap (λ k. eqb (periodAt b i .number) (sought q k)) (eqb-true (periodAt b i .kind) kind z))))
       (λ e. rw e))
-      ∙ sym (has-lone (λ p. p .csd) periodOf (q .csd) (periodAt b) _ 1024)
+      ∙ sym (has-lone (λ p. p .csd) periodOf (q .csd) (periodAt b) _ periodPlaces)
 
   -- So the criteria are the written meaning's.
-  same-tests : tests q (codesBorne b q) ≡ meant.tests lone (asked q)
+  same-tests : tests q (codesBorne b q) ≡ meant.tests lone (questionOf q)
   unfolding meant.tests sought
   same-tests =
       let p = fun-ext (codes party (omega arith)) in
@@ -85,12 +85,12 @@ module _ (b : List ℕ) (q : Question) (r : Ranged (q .csd) b) where
   ten i = refl
 
   -- 2. A marked rule is one with a row that matches.
-  pub rows : (t x : ℕ) → x < 100 → rowsMatched b q (codesBorne b q) (ruleKey t x) ≡ has (λ w. ofRule t (q .object) x w && meetsAll (meant.tests (loneBook (q .csd) b) (asked q)) (w .values)) (loneBook (q .csd) b .rows)
+  pub rows : (t x : ℕ) → x < 100 → rowsMatched b q (codesBorne b q) (ruleKey t x) ≡ has (λ w. ofRule t (q .object) x w && meetsAll (meant.tests (loneBook (q .csd) b) (questionOf q)) (w .values)) (loneBook (q .csd) b .rows)
   unfolding lone rowsMatched rowMatches ofRule rowsOf rowOf
   rows t x low =
-      keys-all ruleKeys (λ w. w .csd) (q .csd) (rowAt b) rowKey (rowMatches q (codesBorne b q)) 1024
+      keys-all ruleKeys (λ w. w .csd) (q .csd) (rowAt b) rowKey (rowMatches q (codesBorne b q)) rowPlaces
       (λ i l o e. let y = r .rows i l o in omega (arith, y .0, y .1)) (ruleKey t x)
-      ∙ any-same _ _ 1024
+      ∙ any-same _ _ rowPlaces
       (λ i l.
       cases (eqb (rowAt b i .csd) (q .csd))
       (λ e.
@@ -101,7 +101,7 @@ module _ (b : List ℕ) (q : Question) (r : Ranged (q .csd) b) where
         row-met (tests q (codesBorne b q)) (rowAt b i .values) refl (ten i),
         same-tests,
       )
-      (row-order (eqb (rowAt b i .object) (q .object)) (meetsAll (meant.tests lone (asked q)) (rowAt b i .values))
+      (row-order (eqb (rowAt b i .object) (q .object)) (meetsAll (meant.tests lone (questionOf q)) (rowAt b i .values))
       (eqb (rowAt b i .sequence) x) (eqb (rowAt b i .number) t)))
       (λ e. rw e))
-      ∙ sym (has-lone (λ w. w .csd) rowOf (q .csd) (rowAt b) _ 1024)
+      ∙ sym (has-lone (λ w. w .csd) rowOf (q .csd) (rowAt b) _ rowPlaces)

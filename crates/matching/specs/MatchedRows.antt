@@ -10,15 +10,15 @@ use Rattle.tables.specs.Keyed.{keys, afterPlace, Keyed}
 use Rattle.meaning.specs.Records as M
 use Rattle.meaning.specs.Records.{party, account, security}
 use Rattle.meaning.specs.Judging.{covers}
-use Rattle.places.specs.Layout.{rowAt, periodAt}
+use Rattle.places.specs.Layout.{rowPlaces, periodPlaces, rowAt, periodAt}
 use Rattle.places.specs.declared.Row.{Row}
 use Rattle.places.specs.declared.Period.{Period}
 use Rattle.marks.specs.Flags.{afterFlag}
 use Rattle.matching.specs.declared.Question.{Question}
 
 -- what a question asks, as the written meaning's
-abbrev pub asked : Question → M.Question
-asked q = record {
+abbrev pub questionOf : Question → M.Question
+questionOf q = record {
   day = q .day;
   object = q .object;
   partyType = q .role;
@@ -72,7 +72,7 @@ abbrev pub markCode : List ℕ → Question → ℕ → List ℕ → List ℕ
 markCode b q i t = afterFlag (λ p. p .csd) (q .csd) periodKey (borneBy q) (periodAt b i) t
 
 unfoldable pub codesBorne : List ℕ → Question → ℕ → Bool
-codesBorne b q = keys (λ p. p .csd) (q .csd) (periodAt b) periodKey (borneBy q) codeKeys 1024
+codesBorne b q = keys (λ p. p .csd) (q .csd) (periodAt b) periodKey (borneBy q) codeKeys periodPlaces
 
 -- ---- 2. the rules of which a row matches
 
@@ -115,8 +115,8 @@ markRow b q codes i t =
 
 unfoldable pub rowsMatched : List ℕ → Question → (ℕ → Bool) → ℕ → Bool
 rowsMatched b q codes =
-    keys (λ w. w .csd) (q .csd) (rowAt b) rowKey (rowMatches q codes) ruleKeys 1024
+    keys (λ w. w .csd) (q .csd) (rowAt b) rowKey (rowMatches q codes) ruleKeys rowPlaces
 
 -- a table of that size of the rules with a matching row, each entry as the rows leave it
 abbrev pub RowsMarked : ℕ → List ℕ → Question → (ℕ → Bool) → List ℕ → Type 0
-RowsMarked size b q codes t = Keyed size (λ w. w .csd) (q .csd) (rowAt b) rowKey (rowMatches q codes) (λ w m. 1) t 1024
+RowsMarked size b q codes t = Keyed size (λ w. w .csd) (q .csd) (rowAt b) rowKey (rowMatches q codes) (λ w m. 1) t rowPlaces

@@ -1,11 +1,14 @@
 // Which rules have a row that matches a question (document 01, 'How a question is judged'): the codes that the question's party, account and security bear, then the rows.
 ghost use mathlib.Core.Path.{_≡_};
-ghost use mathlib.Core.Bool.{cond};
 ghost use lib.ListN.{length};
 ghost use Rattle.tables.specs.Keyed.{Blank};
 ghost use Rattle.meaning.specs.Judging.{covers};
 ghost use Rattle.marks.specs.Flags.{flagged};
 ghost use Rattle.matching.specs.MatchedRows.{codeKey, ruleKey, codeEntries, sought, borneBy, markCode, codesBorne, tests, testAt, valueMet, valuesMet, rowMatches, markRow, RowsMarked};
+use basics::and;
+use basics::no;
+use basics::or;
+use basics::pick;
 use marks::clear;
 use marks::is_flagged;
 use marks::store;
@@ -14,9 +17,32 @@ use owners::next_period;
 use owners::next_row;
 use places::Period;
 use places::Row;
-use records::and;
-use records::no;
-use records::or;
+
+// The sizes of the tables of marks. That of codes has the four keys of a code, one for each kind and 0, in one entry.
+const CODE_ENTRIES: usize = 10000;
+
+pub const RULE_KEYS: usize = 10000;
+
+// The criteria (document 01, 'Lines').
+const PARTY_TYPE: u8 = 0;
+
+const MOVEMENT: u8 = 1;
+
+const PAYMENT: u8 = 2;
+
+const TRANSACTION: u8 = 3;
+
+const SECURITY: u8 = 4;
+
+const ACCOUNT: u8 = 5;
+
+const PARTY_CODE: u8 = 6;
+
+const ACCOUNT_CODE: u8 = 7;
+
+const SECURITY_CODE: u8 = 8;
+
+const CURRENCY: u8 = 9;
 
 // What is asked. Role is the instructing party's type; an empty field is 0.
 pub struct Question {
@@ -31,12 +57,6 @@ pub struct Question {
     pub party: u32,
     pub account: u32,
     pub security: u32,
-}
-
-fn pick_number(a: bool, x: u32, y: u32) -> u32
-    ensures { λ r. ⌜ r ≡ cond a x y ⌝ }
-{
-    if a { x } else { y }
 }
 
 // First and last day both count.
@@ -61,10 +81,10 @@ pub fn rule_key(number: u8, sequence: u8) -> usize
 
 // A table without a flag, in a function of its own, so that no proof shows its cells.
 
-fn no_codes() -> [u8; 10000]
+fn no_codes() -> [u8; CODE_ENTRIES]
     ensures { λ r. ⌜ Blank codeEntries r ⌝ }
 {
-    [0; 10000]
+    [0; CODE_ENTRIES]
 }
 
 // 1. The codes that the question's party, account and security bear on the day.
@@ -73,11 +93,7 @@ fn no_codes() -> [u8; 10000]
 fn sought(q: Question, kind: u8) -> u32
     ensures { λ r. ⌜ r ≡ sought q kind ⌝ }
 {
-    pick_number(
-        kind == 1,
-        q.party,
-        pick_number(kind == 2, q.account, q.security),
-    )
+    pick(kind == 1, q.party, pick(kind == 2, q.account, q.security))
 }
 
 // A period of the question's party, account or security that covers the day.
@@ -122,16 +138,16 @@ fn criterion_met(i: u8, v: u32, q: Question, codes: &[u8]) -> bool
     ensures { λ r. ⌜ r ≡ testAt (tests q (flagged (now (codes .entry)))) i v ⌝ }
 {
     match i {
-        0 => q.role == v,
-        1 => q.movement == v,
-        2 => q.payment == v,
-        3 => q.transaction == v,
-        4 => q.security == v,
-        5 => q.account == v,
-        6 => is_flagged(codes, code_key(v, 1)),
-        7 => is_flagged(codes, code_key(v, 2)),
-        8 => is_flagged(codes, code_key(v, 3)),
-        9 => q.currency == v,
+        PARTY_TYPE => q.role == v,
+        MOVEMENT => q.movement == v,
+        PAYMENT => q.payment == v,
+        TRANSACTION => q.transaction == v,
+        SECURITY => q.security == v,
+        ACCOUNT => q.account == v,
+        PARTY_CODE => is_flagged(codes, code_key(v, 1)),
+        ACCOUNT_CODE => is_flagged(codes, code_key(v, 2)),
+        SECURITY_CODE => is_flagged(codes, code_key(v, 3)),
+        CURRENCY => q.currency == v,
         _ => false,
     }
 }

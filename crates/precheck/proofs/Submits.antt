@@ -29,7 +29,7 @@ use Rattle.edits.specs.Asked.{byte, commandBy, orQuestion, commandIn}
 use Rattle.edits.specs.Edit.{editIn}
 use Rattle.edits.proofs.AskedRight.{asked-right}
 use Rattle.edits.proofs.Stay.{sound-lone, edit-left, edit-sound}
-use Rattle.matching.specs.MatchedRows.{asked}
+use Rattle.matching.specs.MatchedRows.{questionOf}
 use Rattle.judge.specs.Stages.{judgedBy}
 use Rattle.matching.specs.declared.Question.{Question}
 use Rattle.judge.proofs.VerdictRight.{judged-right}
@@ -177,7 +177,7 @@ taken-question : (m : M.Book) (q : M.Question) → taken m (M.ask q) ≡ record 
 unfolding taken refusal unless reply edited
 taken-question m q = refl
 
-question-right : (v : List ℕ) → v ! 2 % 256 ≡ v ! 2 → M.ask (asked (questionFrom v)) ≡ commandOf letterQ v
+question-right : (v : List ℕ) → v ! 2 % 256 ≡ v ! 2 → M.ask (questionOf (questionFrom v)) ≡ commandOf letterQ v
 unfolding questionFrom commandOf
 question-right v e = rw e
 
@@ -188,7 +188,7 @@ object-small n v e h =
     let g : within 1 2 (v ! 2) ≡ true = (rw e at h) 2 (omega arith) in
     omega (arith, leb-true (v ! 2) 2 (search ands))
 
-question-asked : (n : ℕ) (v : List ℕ) → n ≡ 9 → v ! 2 % 256 ≡ v ! 2 → commandIn n v ≡ M.ask (asked (questionFrom v))
+question-asked : (n : ℕ) (v : List ℕ) → n ≡ 9 → v ! 2 % 256 ≡ v ! 2 → commandIn n v ≡ M.ask (questionOf (questionFrom v))
 unfolding commandIn
 question-asked n v e h = rw e (sym (question-right v h))
 
@@ -237,7 +237,7 @@ module _ (b line : List ℕ) (l : Line) (s : sound b ≡ true) (a : Read.Asked l
   judged-question x e f =
       let m = loneBook (byte v 0) b in
       let k = question-asked (l .letter) v e (object-small (l .letter) v e (a .held)) in
-      let t = ap (taken m) k ∙ taken-question m (asked (questionFrom v)) in
+      let t = ap (taken m) k ∙ taken-question m (questionOf (questionFrom v)) in
       let r = judged-right b (questionFrom v) (sound-lone b s (byte v 0) low high) in
       submitted-by b line (byte v 0) (commandIn (l .letter) v) s low high dep nam stepped x b
       (f ∙ ap Judged r ∙ ap (λ z. z .answer) (sym t)) (λ z. refl) s (rw t (same-book m)) (λ c y z. refl)

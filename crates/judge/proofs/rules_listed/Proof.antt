@@ -4,16 +4,16 @@ use mathlib.Core.Path.{_≡_}
 use native.Mathlib.Omega.{arith}
 use borrow.Author.Needs.{needs}
 use Rattle.tables.specs.Keyed.{marked}
-use Rattle.judge.specs.Stages.{Listed}
+use Rattle.judge.specs.Stages.{sequences, Listed}
 use Rattle.judge.proofs.Listing.{listed-none, listed-more}
 use Rattle.judge.proofs.rules_listed.Statement.{statement}
 use Rattle.judge.proofs.rules_listed.Tie as tie
 
 abbrev Inv-loop : tie.InvT-loop
-Inv-loop rules t₀ s₀ t s = (1 ≤ s) × ((s ≤ 100) × Listed (marked rules) s t)
+Inv-loop rules t₀ s₀ t s = (1 ≤ s) × ((s ≤ sequences) × Listed (marked rules) s t)
 
 abbrev μ-loop : tie.MeasureT-loop
-μ-loop rules t₀ s₀ t s = 100 - s
+μ-loop rules t₀ s₀ t s = sequences - s
 
 pub rules-listed-spec : {M : Type 1} → statement M
 rules-listed-spec =
@@ -30,4 +30,4 @@ rules-listed-spec =
     (λ c. omega arith)
     (λ c. omega arith)
     (λ c. (omega arith, (omega arith, search listed-more)))
-    (λ c. let e : c .before .loop .s ≡ 100 = omega arith in rw e at (c .before .loop .inv .1 .1)))
+    (λ c. let e : c .before .loop .s ≡ sequences = omega arith in rw e at (c .before .loop .inv .1 .1)))

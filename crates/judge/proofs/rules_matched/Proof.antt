@@ -7,7 +7,7 @@ use Rattle.tables.specs.Keyed.{marked, Keyed}
 use Rattle.tables.proofs.Keying.{keyed-none, keyed-marks}
 use Rattle.owners.specs.Next.{nextRule}
 use Rattle.owners.proofs.NextPassing.{next-within}
-use Rattle.places.specs.Layout.{ruleAt}
+use Rattle.places.specs.Layout.{rulePlaces, ruleAt}
 use Rattle.judge.specs.Stages.{signedKey, signKeys, ruleOfType, rulesMatched}
 use Rattle.owners.proofs.NextPassing.{pass-more, pass-end}
 use borrow.Author.Needs.{needs}
@@ -15,10 +15,10 @@ use Rattle.judge.proofs.rules_matched.Statement.{statement}
 use Rattle.judge.proofs.rules_matched.Tie as tie
 
 abbrev Inv-loop : tie.InvT-loop
-Inv-loop t₀ b q rows number i₀ t i = (i ≤ 512) × (length t ≡ length t₀) × Keyed signKeys (λ r. r .csd) (q .csd) (ruleAt b) signedKey (ruleOfType q (marked rows) number) (λ r m. 1) t i
+Inv-loop t₀ b q rows number i₀ t i = (i ≤ rulePlaces) × (length t ≡ length t₀) × Keyed signKeys (λ r. r .csd) (q .csd) (ruleAt b) signedKey (ruleOfType q (marked rows) number) (λ r m. 1) t i
 
 abbrev μ-loop : tie.MeasureT-loop
-μ-loop t₀ b q rows number i₀ t i = 512 - i
+μ-loop t₀ b q rows number i₀ t i = rulePlaces - i
 
 pub rules-matched-spec : {M : Type 1} → statement M
 unfolding rulesMatched nextRule
@@ -30,10 +30,10 @@ rules-matched-spec =
     (λ c. (search needs, search needs, search keyed-none))
     (λ c κs. search needs)
     (λ c. search needs)
-    (λ c. keyed-marks _ _ _ _ _ _ _ 512 512 (pass-end _ _ _ _ _ _ _ _ _ _ _ (c .before .next-rule .ensures) (c .before .before .before .loop .inv .0) (c .if1 .taken) (c .before .before .before .loop .inv .2)) refl)
+    (λ c. keyed-marks _ _ _ _ _ _ _ rulePlaces rulePlaces (pass-end _ _ _ _ _ _ _ _ _ _ _ (c .before .next-rule .ensures) (c .before .before .before .loop .inv .0) (c .if1 .taken) (c .before .before .before .loop .inv .2)) refl)
     (λ c κs. search needs)
     (λ c. omega (arith, next-within _ _ _ _ (c .before .before .before .before .before .next-rule .ensures) (c .before .before .before .before .before .before .before .loop .inv .0)))
     (λ c. omega (arith, next-within _ _ _ _ (c .before .before .before .before .before .next-rule .ensures) (c .before .before .before .before .before .before .before .loop .inv .0)))
     (λ c. (omega (arith, next-within _ _ _ _ (c .before .before .before .before .before .next-rule .ensures) (c .before .before .before .before .before .before .before .loop .inv .0)), search needs, search pass-more))
     (λ c. search needs)
-    (λ c. let e : c .before .loop .i ≡ 512 = omega arith in search keyed-marks))
+    (λ c. let e : c .before .loop .i ≡ rulePlaces = omega arith in search keyed-marks))

@@ -7,18 +7,18 @@ use Rattle.tables.specs.Count.{lesser}
 use Rattle.tables.proofs.Keying.{keyed-none, keyed-leasts}
 use Rattle.owners.specs.Next.{nextType}
 use Rattle.owners.proofs.NextPassing.{next-within}
-use Rattle.places.specs.Layout.{typeAt}
-use Rattle.judge.specs.Stages.{typeApplies, typesNamed}
+use Rattle.places.specs.Layout.{typePlaces, typeAt}
+use Rattle.judge.specs.Stages.{processings, typeApplies, typesNamed}
 use Rattle.owners.proofs.NextPassing.{pass-more, pass-end}
 use borrow.Author.Needs.{needs}
 use Rattle.judge.proofs.types_named.Statement.{statement}
 use Rattle.judge.proofs.types_named.Tie as tie
 
 abbrev Inv-loop : tie.InvT-loop
-Inv-loop b q signs t₀ i₀ t i = (i ≤ 128) × Keyed 4 (λ r. r .csd) (q .csd) (typeAt b) (λ t. t .processing) (typeApplies q (marked signs)) (λ t m. lesser (t .number) m) t i
+Inv-loop b q signs t₀ i₀ t i = (i ≤ typePlaces) × Keyed processings (λ r. r .csd) (q .csd) (typeAt b) (λ t. t .processing) (typeApplies q (marked signs)) (λ t m. lesser (t .number) m) t i
 
 abbrev μ-loop : tie.MeasureT-loop
-μ-loop b q signs t₀ i₀ t i = 128 - i
+μ-loop b q signs t₀ i₀ t i = typePlaces - i
 
 pub types-named-spec : {M : Type 1} → statement M
 unfolding typesNamed nextType
@@ -30,10 +30,10 @@ types-named-spec =
     (λ c κs. search needs)
     (λ c. (search needs, search keyed-none))
     (λ c κs. search needs)
-    (λ c. keyed-leasts _ _ _ _ _ _ _ _ 128 128 (pass-end _ _ _ _ _ _ _ _ _ _ _ (c .before .next-type .ensures) (c .before .before .before .loop .inv .0) (c .if1 .taken) (c .before .before .before .loop .inv .1)) refl)
+    (λ c. keyed-leasts _ _ _ _ _ _ _ _ typePlaces typePlaces (pass-end _ _ _ _ _ _ _ _ _ _ _ (c .before .next-type .ensures) (c .before .before .before .loop .inv .0) (c .if1 .taken) (c .before .before .before .loop .inv .1)) refl)
     (λ c. search needs)
     (λ c κs. search needs)
     (λ c. omega (arith, next-within _ _ _ _ (c .before .before .before .before .next-type .ensures) (c .before .before .before .before .before .before .loop .inv .0)))
     (λ c. omega (arith, next-within _ _ _ _ (c .before .before .before .before .next-type .ensures) (c .before .before .before .before .before .before .loop .inv .0)))
     (λ c. (omega (arith, next-within _ _ _ _ (c .before .before .before .before .next-type .ensures) (c .before .before .before .before .before .before .loop .inv .0)), search pass-more))
-    (λ c. let e : c .before .loop .i ≡ 128 = omega arith in keyed-leasts _ _ _ _ _ _ _ _ _ 128 (c .before .loop .inv .1) e))
+    (λ c. let e : c .before .loop .i ≡ typePlaces = omega arith in keyed-leasts _ _ _ _ _ _ _ _ _ typePlaces (c .before .loop .inv .1) e))

@@ -7,7 +7,7 @@ use Rattle.tables.specs.Keyed.{Keyed}
 use Rattle.tables.proofs.Keying.{keyed-none}
 use Rattle.owners.specs.Next.{nextRow}
 use Rattle.owners.proofs.NextPassing.{next-within}
-use Rattle.places.specs.Layout.{rowAt}
+use Rattle.places.specs.Layout.{rowPlaces, rowAt}
 use Rattle.marks.specs.Flags.{flagged}
 use Rattle.matching.specs.MatchedRows.{rowKey, rowMatches}
 use Rattle.owners.proofs.NextPassing.{pass-more, pass-end}
@@ -16,10 +16,10 @@ use Rattle.matching.proofs.rows_matched.Statement.{statement}
 use Rattle.matching.proofs.rows_matched.Tie as tie
 
 abbrev Inv-loop : tie.InvT-loop
-Inv-loop t₀ b q codes i₀ t i = (i ≤ 1024) × (length t ≡ length t₀) × Keyed (length t₀) (λ r. r .csd) (q .csd) (rowAt b) rowKey (rowMatches q (flagged codes)) (λ r m. 1) t i
+Inv-loop t₀ b q codes i₀ t i = (i ≤ rowPlaces) × (length t ≡ length t₀) × Keyed (length t₀) (λ r. r .csd) (q .csd) (rowAt b) rowKey (rowMatches q (flagged codes)) (λ r m. 1) t i
 
 abbrev μ-loop : tie.MeasureT-loop
-μ-loop t₀ b q codes i₀ t i = 1024 - i
+μ-loop t₀ b q codes i₀ t i = rowPlaces - i
 
 pub rows-matched-spec : {M : Type 1} → statement M
 unfolding nextRow
@@ -37,4 +37,4 @@ rows-matched-spec =
     (λ c. omega (arith, next-within _ _ _ _ (c .before .before .before .before .before .next-row .ensures) (c .before .before .before .before .before .before .before .loop .inv .0)))
     (λ c. (omega (arith, next-within _ _ _ _ (c .before .before .before .before .before .next-row .ensures) (c .before .before .before .before .before .before .before .loop .inv .0)), search needs, search pass-more))
     (λ c. search needs)
-    (λ c. let e : c .before .loop .i ≡ 1024 = omega arith in rw e at (c .before .loop .inv .2)))
+    (λ c. let e : c .before .loop .i ≡ rowPlaces = omega arith in rw e at (c .before .loop .inv .2)))
