@@ -148,8 +148,8 @@ fn type_applies(q: Question, signs: &[u8], t: RestrictionType) -> bool
     ensures { λ r. ⌜ r ≡ typeApplies q (marked (now (signs .entry))) t ⌝ }
 {
     let current = covers(t.first, t.last, q.day);
-    let positive = is_marked(signs, type_key(t.number, 1));
-    let negative = is_marked(signs, type_key(t.number, 2));
+    let positive = is_marked(signs, type_key(t.number, Rule::POSITIVE));
+    let negative = is_marked(signs, type_key(t.number, Rule::NEGATIVE));
     and(
         and(t.object == q.object, current),
         and(positive, no(negative)),
@@ -223,11 +223,11 @@ fn judged_rule(rules: &[u8], sequence: u8) -> ListedRule
     ensures { λ r. ⌜ r ≡ judgedRule (marked (now (rules .entry))) sequence ⌝ }
 {
     let s = sequence as u16;
-    let positive = is_marked(rules, sign_key(s, 1));
-    let negative = is_marked(rules, sign_key(s, 2));
+    let positive = is_marked(rules, sign_key(s, Rule::POSITIVE));
+    let negative = is_marked(rules, sign_key(s, Rule::NEGATIVE));
     ListedRule {
         sequence,
-        sign: pick_byte(positive, 1, 2),
+        sign: pick_byte(positive, Rule::POSITIVE, Rule::NEGATIVE),
         matches: or(positive, negative),
     }
 }
@@ -290,14 +290,25 @@ fn decided(b: &[u8], q: Question, rows: &[u8], number: u8) -> Deciding
     }
 }
 
+// The type named for a processing, 0 for none.
+fn named_for(named: &[u8], processing: u8) -> u8
+    ensures { λ r. ⌜ r ≡ getD (now (named .entry)) processing 0 ⌝ }
+{
+    look(named, processing_key(processing))
+}
+
 // Rejection comes first, and a rejected instruction shows no hold.
 fn verdict(b: &[u8], q: Question, rows: &[u8], named: &[u8]) -> Verdict
     ensures { λ r. ⌜ r ≡ verdict (rulesMatched (now (b .entry)) q (marked (now (rows .entry)))) (λ k. getD (now (named .entry)) k 0) ⌝ }
 {
-    let rejecting = look(named, 1);
+    let rejecting = named_for(named, RestrictionType::REJECTION);
     let accepted = rejecting == 0;
-    let validation = pick_byte(accepted, look(named, 2), 0);
-    let party = pick_byte(accepted, look(named, 3), 0);
+    let validation = pick_byte(
+        accepted,
+        named_for(named, RestrictionType::VALIDATION_HOLD),
+        0,
+    );
+    let party = pick_byte(accepted, named_for(named, RestrictionType::PARTY_HOLD), 0);
     Verdict {
         rejected: no(accepted),
         rejection: decided(b, q, rows, rejecting),

@@ -89,11 +89,15 @@ fn no_codes() -> [u8; CODE_ENTRIES]
 
 // 1. The codes that the question's party, account and security bear on the day.
 
-// The question's number of a kind: 1 party, 2 account, 3 security.
+// The question's number of a kind.
 fn sought(q: Question, kind: u8) -> u32
     ensures { λ r. ⌜ r ≡ sought q kind ⌝ }
 {
-    pick(kind == 1, q.party, pick(kind == 2, q.account, q.security))
+    pick(
+        kind == Period::PARTY,
+        q.party,
+        pick(kind == Period::ACCOUNT, q.account, q.security),
+    )
 }
 
 // A period of the question's party, account or security that covers the day.
@@ -144,9 +148,9 @@ fn criterion_met(i: u8, v: u32, q: Question, codes: &[u8]) -> bool
         TRANSACTION => q.transaction == v,
         SECURITY => q.security == v,
         ACCOUNT => q.account == v,
-        PARTY_CODE => is_flagged(codes, code_key(v, 1)),
-        ACCOUNT_CODE => is_flagged(codes, code_key(v, 2)),
-        SECURITY_CODE => is_flagged(codes, code_key(v, 3)),
+        PARTY_CODE => is_flagged(codes, code_key(v, Period::PARTY)),
+        ACCOUNT_CODE => is_flagged(codes, code_key(v, Period::ACCOUNT)),
+        SECURITY_CODE => is_flagged(codes, code_key(v, Period::SECURITY)),
         CURRENCY => q.currency == v,
         _ => false,
     }

@@ -30,26 +30,41 @@ fn days_fit(first: u32, last: u32) -> bool
 fn key_fits(number: u8, object: u8) -> bool
     ensures { λ r. ⌜ r ≡ keyFits number object ⌝ }
 {
-    and(byte_within(1, 99, number), byte_within(1, 2, object))
+    let numbered = byte_within(1, 99, number);
+    let known = byte_within(
+        RestrictionType::INSTRUCTION,
+        RestrictionType::RESTRICTION,
+        object,
+    );
+    and(numbered, known)
 }
 
-// Processing 3 is of object 1 only.
+// A party hold is of instructions only.
 pub fn type_fits(t: RestrictionType) -> bool
     ensures { λ r. ⌜ r ≡ typeFits (typeOf t) ⌝ }
 {
-    let held = no(and(t.processing == 3, t.object == 2));
+    let held = no(and(
+        t.processing == RestrictionType::PARTY_HOLD,
+        t.object == RestrictionType::RESTRICTION,
+    ));
     let days = days_fit(t.first, t.last);
-    and(
-        key_fits(t.number, t.object),
-        and(and(byte_within(1, 3, t.processing), held), days),
-    )
+    let key = key_fits(t.number, t.object);
+    let known = byte_within(
+        RestrictionType::REJECTION,
+        RestrictionType::PARTY_HOLD,
+        t.processing,
+    );
+    and(key, and(and(known, held), days))
 }
 
 pub fn rule_fits(t: Rule) -> bool
     ensures { λ r. ⌜ r ≡ ruleFits (ruleOf t) ⌝ }
 {
     let key = and(key_fits(t.number, t.object), byte_within(1, 99, t.sequence));
-    let says = and(byte_within(1, 2, t.sign), within(1, 1023, t.criteria));
+    let says = and(
+        byte_within(Rule::POSITIVE, Rule::NEGATIVE, t.sign),
+        within(1, 1023, t.criteria),
+    );
     and(key, and(says, days_fit(t.first, t.last)))
 }
 
@@ -140,7 +155,10 @@ pub fn row_fits(t: Row) -> bool
 pub fn period_fits(t: Period) -> bool
     ensures { λ r. ⌜ r ≡ periodFits (periodOf t) ⌝ }
 {
-    let of = and(byte_within(1, 3, t.kind), within(1, 999999, t.number));
+    let of = and(
+        byte_within(Period::PARTY, Period::SECURITY, t.kind),
+        within(1, 999999, t.number),
+    );
     and(of, and(is_code(t.code), days_fit(t.first, t.last)))
 }
 

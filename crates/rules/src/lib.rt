@@ -2,8 +2,9 @@
 // and the search over the lent slice only reads a rule, asks and returns.
 ghost use mathlib.Core.Path.{_≡_};
 ghost use Rattle.rules.specs.Search.{mayDecide, firstPositive};
+use places::Rule;
 
-// A rule of a type, as judged: whether it matches the question. Sign is 1 for positive, 2 for negative.
+// A rule of a type, as judged: whether it matches the question.
 pub struct ListedRule {
     pub sequence: u8,
     pub sign: u8,
@@ -20,7 +21,11 @@ pub enum First {
 fn may_decide(r: ListedRule) -> bool
     ensures { λ b. ⌜ b ≡ mayDecide r ⌝ }
 {
-    if r.sign == 1 { r.matches } else { false }
+    if r.sign == Rule::POSITIVE {
+        r.matches
+    } else {
+        false
+    }
 }
 
 // The first matching positive rule, in the order of the slice.
