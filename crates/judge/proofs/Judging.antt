@@ -12,11 +12,15 @@ use Rattle.matching.specs.MatchedRows.{ruleKeys, codesBorne, rowsMatched, RowsM
 use Rattle.judge.specs.Stages.{rulesMatched, signsMatched, typesNamed, verdict, judgedBy}
 use Rattle.matching.specs.declared.Question.{Question}
 
-by-rows : (b : List ℕ) (q : Question) (codes : ℕ → Bool) (rows : List ℕ) → RowsMarked ruleKeys b q codes rows → marked rows ≡ rowsMatched b q codes
+by-rows : (b : List ℕ) (q : Question) (codes : ℕ → Bool) (rows : List ℕ) → RowsMarked ruleKeys b q codes rows
+    → marked rows ≡ rowsMatched b q codes
 unfolding rowsMatched
 by-rows b q codes rows m = keyed-marks _ _ _ _ _ _ rows rowPlaces rowPlaces m refl
 
-pub by-stages : (b : List ℕ) (q : Question) (space rows : List ℕ) (signs : ℕ → Bool) (named : ℕ → ℕ) (r : Verdict) → r ≡ verdict (rulesMatched b q (marked rows)) named → named ≡ typesNamed b q signs → signs ≡ signsMatched b q (marked rows) → RowsMarked (length space) b q (codesBorne b q) rows → length space ≡ ruleKeys → r ≡ judgedBy b q
+pub by-stages : (b : List ℕ) (q : Question) (space rows : List ℕ) (signs : ℕ → Bool) (named : ℕ → ℕ) (r : Verdict)
+    → r ≡ verdict (rulesMatched b q (marked rows)) named → named ≡ typesNamed b q signs
+    → signs ≡ signsMatched b q (marked rows) → RowsMarked (length space) b q (codesBorne b q) rows
+    → length space ≡ ruleKeys → r ≡ judgedBy b q
 unfolding judgedBy
 by-stages b q space rows signs named r e en es er el = e ∙ rw (en, es, rows-found)
   where

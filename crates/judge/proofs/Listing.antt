@@ -1,4 +1,5 @@
--- What the returns of the functions on the rules of one type leave to show: the list by sequence, and the first rule that it gives.
+-- What the returns of the functions on the rules of one type leave to show: the list by sequence, and the first rule
+-- that it gives.
 use Prim.Native.Nat.{ℕ, _+_, _≤_, _<_}
 use mathlib.Core.Path.{_≡_, refl, ap, sym, _∙_}
 use mathlib.Core.Bool.{Bool, true, false, _&&_, _||_, cond}
@@ -18,7 +19,9 @@ use Rattle.rules.proofs.Rising.{rising}
 use Rattle.judge.specs.Stages.{sequences, signKey, judgedRule, noneListed, Listed, firstRule}
 
 module _ (rules : ℕ → Bool) where
-  pub judged-by : (s sign kp kn : ℕ) (p n m : Bool) → m ≡ (p || n) → sign ≡ cond p positive negative → n ≡ rules kn → kn ≡ signKey s negative → p ≡ rules kp → kp ≡ signKey s positive → record { sequence = s; sign = sign; matches = m } ≡ judgedRule rules s
+  pub judged-by : (s sign kp kn : ℕ) (p n m : Bool) → m ≡ (p || n) → sign ≡ cond p positive negative → n ≡ rules kn
+      → kn ≡ signKey s negative → p ≡ rules kp → kp ≡ signKey s positive
+      → record { sequence = s; sign = sign; matches = m } ≡ judgedRule rules s
   judged-by s sign kp kn p n m em es en en′ ep ep′ = rw (em, es, en, en′, ep, ep′)
 
   -- ---- the list, one sequence after the other
@@ -31,7 +34,8 @@ module _ (rules : ℕ → Bool) where
     each = λ s o l. absurd (omega arith);
   }
 
-  pub listed-more : (t u : List ListedRule) (s : ℕ) (r : ListedRule) → u ≡ set t s r → r ≡ judgedRule rules s → Listed rules s t → 1 ≤ s → s < sequences → Listed rules (s + 1) u
+  pub listed-more : (t u : List ListedRule) (s : ℕ) (r : ListedRule) → u ≡ set t s r → r ≡ judgedRule rules s
+      → Listed rules s t → 1 ≤ s → s < sequences → Listed rules (s + 1) u
   listed-more t u s r eu er m o l = record {
     long = ap length eu ∙ length-set t s r ∙ m .long;
     none = ap (λ l. getD l 0 noRule) eu ∙ getD-set-other t s 0 r noRule (λ z. omega arith) ∙ m .none;
@@ -58,8 +62,10 @@ module _ (rules : ℕ → Bool) where
       (omega (arith, m .long))
       ∙ ap (leastBelow (λ s. cond (rules (signKey s positive)) s 0)) (m .long)
 
-  pub first-at : (t : List ListedRule) (f : First) (s : ℕ) → f ≡ At s → f ≡ firstPositive t → Listed rules sequences t → s ≡ firstRule rules
+  pub first-at : (t : List ListedRule) (f : First) (s : ℕ) → f ≡ At s → f ≡ firstPositive t → Listed rules sequences t
+      → s ≡ firstRule rules
   first-at t f s e d m = ap sequenceOf (sym e ∙ d) ∙ firsts t m
 
-  pub first-nothing : (t : List ListedRule) (f : First) → f ≡ Nothing → f ≡ firstPositive t → Listed rules sequences t → 0 ≡ firstRule rules
+  pub first-nothing : (t : List ListedRule) (f : First) → f ≡ Nothing → f ≡ firstPositive t → Listed rules sequences t
+      → 0 ≡ firstRule rules
   first-nothing t f e d m = ap sequenceOf (sym e ∙ d) ∙ firsts t m

@@ -29,7 +29,8 @@ use Rattle.matching.proofs.MarksRight.{rows}
 
 -- ---- the same tests in another order
 
-rule-order : (o d m m′ g s t : Bool) → (o ≡ true → m ≡ m′) → ((o && (d && m)) && (g && (s && t))) ≡ ((t && o && g && d && m′) && s)
+rule-order : (o d m m′ g s t : Bool) → (o ≡ true → m ≡ m′)
+    → ((o && (d && m)) && (g && (s && t))) ≡ ((t && o && g && d && m′) && s)
 rule-order true d m m′ g s t h = rw (h refl) (order d m′ g s t)
   where
     order : (d m g s t : Bool) → ((d && m) && (g && (s && t))) ≡ ((t && true && g && d && m) && s)
@@ -64,7 +65,8 @@ module _ (b : List ℕ) (q : Question) (r : Ranged (q .csd) b) where
   rules-of t sign i = eqb (ruleAt b i .csd) (q .csd) && ruleApplies lone (questionOf q) t sign (ruleOf (ruleAt b i))
 
   -- with a further test s of the rule's key, as of its sequence
-  spoken : (t sign i : ℕ) (s : Bool) → i < rulePlaces → ruleAt b i .csd ≡ q .csd → (ruleMatches q (rowsMatched b q (codesBorne b q)) (ruleAt b i) && (eqb (ruleAt b i .sign) sign && (s && eqb (ruleAt b i .number) t))) ≡ (ruleApplies lone (questionOf q) t sign (ruleOf (ruleAt b i)) && s)
+  spoken : (t sign i : ℕ) (s : Bool) → i < rulePlaces → ruleAt b i .csd ≡ q .csd
+      → (ruleMatches q (rowsMatched b q (codesBorne b q)) (ruleAt b i) && (eqb (ruleAt b i .sign) sign && (s && eqb (ruleAt b i .number) t))) ≡ (ruleApplies lone (questionOf q) t sign (ruleOf (ruleAt b i)) && s)
   unfolding lone ruleMatches ruleApplies matches ruleOf
   spoken t sign i s l e =
       rule-order (eqb (ruleAt b i .object) (q .object)) (covers (ruleAt b i .first) (ruleAt b i .last) (q .day))
@@ -76,7 +78,8 @@ module _ (b : List ℕ) (q : Question) (r : Ranged (q .csd) b) where
       (sym (eqb-true (ruleAt b i .object) (q .object) z)))
 
   -- A marked sign of a type is that of a rule that applies.
-  signs : (t sign : ℕ) → sign < 3 → signsOn b q (typeKey t sign) ≡ has (ruleApplies lone (questionOf q) t sign) (lone .rules)
+  signs : (t sign : ℕ) → sign < 3
+      → signsOn b q (typeKey t sign) ≡ has (ruleApplies lone (questionOf q) t sign) (lone .rules)
   unfolding lone signsMatched rulesOf
   signs t sign few =
       keys-all typeKeys (λ r. r .csd) (q .csd) (ruleAt b) typedKey (ruleMatches q (rowsMatched b q (codesBorne b q))) rulePlaces
@@ -92,7 +95,8 @@ module _ (b : List ℕ) (q : Question) (r : Ranged (q .csd) b) where
       ∙ sym (has-lone (λ r. r .csd) ruleOf (q .csd) (ruleAt b) _ rulePlaces)
 
   -- 4. The types.
-  applied : (processing i : ℕ) → (typeApplies q (signsOn b q) (typeAt b i) && eqb (typeAt b i .processing) processing) ≡ applies lone (questionOf q) processing (typeOf (typeAt b i))
+  applied : (processing i : ℕ)
+      → (typeApplies q (signsOn b q) (typeAt b i) && eqb (typeAt b i .processing) processing) ≡ applies lone (questionOf q) processing (typeOf (typeAt b i))
   unfolding typeApplies applies typeOf
   applied processing i =
       rw (signs (typeAt b i .number) positive (omega arith), signs (typeAt b i .number) negative (omega arith))
@@ -100,7 +104,8 @@ module _ (b : List ℕ) (q : Question) (r : Ranged (q .csd) b) where
       (has (ruleApplies lone (questionOf q) (typeAt b i .number) positive) (lone .rules))
       (not (has (ruleApplies lone (questionOf q) (typeAt b i .number) negative) (lone .rules))) (eqb (typeAt b i .processing) processing))
 
-  lowest : (processing : ℕ) → leastBelow (λ i. cond (eqb (typeAt b i .csd) (q .csd) && (typeApplies q (signsOn b q) (typeAt b i) && eqb (typeAt b i .processing) processing)) (typeAt b i .number) 0) typePlaces ≡ meant.named lone (questionOf q) processing
+  lowest : (processing : ℕ)
+      → leastBelow (λ i. cond (eqb (typeAt b i .csd) (q .csd) && (typeApplies q (signsOn b q) (typeAt b i) && eqb (typeAt b i .processing) processing)) (typeAt b i .number) 0) typePlaces ≡ meant.named lone (questionOf q) processing
   unfolding lone meant.named typesOf typeOf
   lowest processing =
       least-same _ _ typePlaces (λ i l. ap (λ z. cond (eqb (typeAt b i .csd) (q .csd) && z) (typeAt b i .number) 0) (applied processing i))
@@ -108,7 +113,8 @@ module _ (b : List ℕ) (q : Question) (r : Ranged (q .csd) b) where
 
   -- 5. What is found in rising sequence is what the written meaning finds among the rules.
   -- A marked rule of a type is one that applies, at its sequence.
-  rules : (t x sign : ℕ) → sign < 3 → rulesOn b q t (signKey x sign) ≡ anyBelow (λ i. rules-of t sign i && eqb (ruleAt b i .sequence) x) rulePlaces
+  rules : (t x sign : ℕ) → sign < 3
+      → rulesOn b q t (signKey x sign) ≡ anyBelow (λ i. rules-of t sign i && eqb (ruleAt b i .sequence) x) rulePlaces
   unfolding rulesMatched ruleOfType rules-of
   rules t x sign few =
       keys-all signKeys (λ r. r .csd) (q .csd) (ruleAt b) signedKey (ruleOfType q (rowsMatched b q (codesBorne b q)) t) rulePlaces
@@ -140,13 +146,15 @@ module _ (b : List ℕ) (q : Question) (r : Ranged (q .csd) b) where
   decided-right (suc t) = rw (ne-eqb (suc t) 0 (λ z. omega arith), decides (suc t))
 
   -- The verdict, by the types named.
-  verdict-right : (named : ℕ → ℕ) (n h k : ℕ) → named rejection ≡ n → named validationHold ≡ h → named partyHold ≡ k → verdict (rulesOn b q) named ≡ meant.verdict lone (questionOf q) n h k
+  verdict-right : (named : ℕ → ℕ) (n h k : ℕ) → named rejection ≡ n → named validationHold ≡ h → named partyHold ≡ k
+      → verdict (rulesOn b q) named ≡ meant.verdict lone (questionOf q) n h k
   unfolding verdict meant.verdict
   verdict-right named zero h k en eh ek = rw (en, eh, ek, decided-right h, decided-right k, decided-right 0)
   verdict-right named (suc n) h k en eh ek = rw (en, ne-eqb (suc n) 0 (λ z. omega arith), decided-right (suc n), decided-right 0)
 
 -- The verdict over the bytes is the written meaning's over the question's lone book, where that is sound.
-pub judged-right : (b : List ℕ) (q : Question) → soundLone (loneBook (q .csd) b) ≡ true → judgedBy b q ≡ judged (loneBook (q .csd) b) (questionOf q)
+pub judged-right : (b : List ℕ) (q : Question) → soundLone (loneBook (q .csd) b) ≡ true
+    → judgedBy b q ≡ judged (loneBook (q .csd) b) (questionOf q)
 unfolding judgedBy lone typesNamed leasts judged
 judged-right b q s =
     let r = ranged (q .csd) b s in

@@ -1,6 +1,7 @@
--- How a question is judged over the places of the lent book, by the rules of which a row matches (matching/specs/MatchedRows, stages 1 and 2): a pass over
--- the rules and the types, and one over the rules for each type that is named. A stage leaves marks, tests of the keys of a table of numbers; each
--- definition is of any bytes. Assumes nothing.
+-- How a question is judged over the places of the lent book, by the rules of which a row matches
+-- (matching/specs/MatchedRows, stages 1 and 2): a pass over the rules and the types, and one over the rules for each
+-- type that is named. A stage leaves marks, tests of the keys of a table of numbers; each definition is of any bytes.
+-- Assumes nothing.
 use Prim.Native.Nat.{ℕ, _+_, _*_, _<_, _≤_}
 use mathlib.Core.Path.{_≡_}
 use mathlib.Core.Bool.{Bool, _&&_, _||_, not, cond}

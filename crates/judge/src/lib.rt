@@ -1,5 +1,6 @@
-// The verdict on a question over the lent book (document 01, 'How a question is judged'), by the marks of the rules of which a row matches (crate `matching`, stages 1 and 2): a pass over
-// the rules, one over the types, and one over the rules for each type that the verdict names. A pass goes from each place of the depository to its next.
+// The verdict on a question over the lent book (document 01, 'How a question is judged'), by the marks of the rules of
+// which a row matches (crate `matching`, stages 1 and 2): a pass over the rules, one over the types, and one over the
+// rules for each type that the verdict names. A pass goes from each place of the depository to its next.
 ghost use mathlib.Core.Path.{_≡_};
 ghost use lib.ListN.{length, getD};
 ghost use Rattle.matching.specs.MatchedRows.{ruleKeys};

@@ -1,4 +1,5 @@
--- Over a sound lone book, a marked code is one that is borne, and a marked rule one of which a row matches, as the written meaning says.
+-- Over a sound lone book, a marked code is one that is borne, and a marked rule one of which a row matches, as the
+-- written meaning says.
 use Prim.Native.Nat.{ℕ, _<_}
 use mathlib.Core.Path.{_≡_, refl, ap, sym, _∙_, fun-ext}
 use mathlib.Core.Bool.{Bool, true, false, _&&_, and-true, and-false, and-comm}
@@ -43,7 +44,8 @@ module _ (b : List ℕ) (q : Question) (r : Ranged (q .csd) b) where
   lone = loneBook (q .csd) b
 
   -- 1. A marked code is one that the question's party, account or security has.
-  codes : (kind : ℕ) → kind < 4 → (v : ℕ) → codesBorne b q (codeKey v kind) ≡ hasCode lone (questionOf q) kind (sought q kind) v
+  codes : (kind : ℕ) → kind < 4 → (v : ℕ)
+      → codesBorne b q (codeKey v kind) ≡ hasCode lone (questionOf q) kind (sought q kind) v
   unfolding lone codesBorne borneBy hasCode periodsOf periodOf
   codes kind low v =
       keys-all codeKeys (λ p. p .csd) (q .csd) (periodAt b) periodKey (borneBy q) periodPlaces
@@ -85,7 +87,8 @@ module _ (b : List ℕ) (q : Question) (r : Ranged (q .csd) b) where
   ten i = refl
 
   -- 2. A marked rule is one with a row that matches.
-  pub rows : (t x : ℕ) → x < 100 → rowsMatched b q (codesBorne b q) (ruleKey t x) ≡ has (λ w. ofRule t (q .object) x w && meetsAll (meant.tests (loneBook (q .csd) b) (questionOf q)) (w .values)) (loneBook (q .csd) b .rows)
+  pub rows : (t x : ℕ) → x < 100
+      → rowsMatched b q (codesBorne b q) (ruleKey t x) ≡ has (λ w. ofRule t (q .object) x w && meetsAll (meant.tests (loneBook (q .csd) b) (questionOf q)) (w .values)) (loneBook (q .csd) b .rows)
   unfolding lone rowsMatched rowMatches ofRule rowsOf rowOf
   rows t x low =
       keys-all ruleKeys (λ w. w .csd) (q .csd) (rowAt b) rowKey (rowMatches q (codesBorne b q)) rowPlaces

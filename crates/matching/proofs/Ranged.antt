@@ -15,9 +15,11 @@ use Rattle.records.specs.Said.{ruleOf, rowOf, periodOf}
 use Rattle.book.specs.Lone.{rulesOf, rowsOf, periodsOf, loneBook}
 
 pub record Ranged (a : ℕ) (b : List ℕ) : Type 0 where
-  pub periods : (i : ℕ) → i < periodPlaces → periodAt b i .csd ≡ a → (periodAt b i .code < 10000) × (periodAt b i .kind < 4)
+  pub periods : (i : ℕ) → i < periodPlaces → periodAt b i .csd ≡ a
+      → (periodAt b i .code < 10000) × (periodAt b i .kind < 4)
   pub rows : (i : ℕ) → i < rowPlaces → rowAt b i .csd ≡ a → (rowAt b i .number < 100) × (rowAt b i .sequence < 100)
-  pub rules : (i : ℕ) → i < rulePlaces → ruleAt b i .csd ≡ a → (ruleAt b i .number < 100) × (ruleAt b i .sequence < 100) × (ruleAt b i .sign < 3)
+  pub rules : (i : ℕ) → i < rulePlaces → ruleAt b i .csd ≡ a
+      → (ruleAt b i .number < 100) × (ruleAt b i .sequence < 100) × (ruleAt b i .sign < 3)
 
 pub ranged : (a : ℕ) (b : List ℕ) → soundLone (loneBook a b) ≡ true → Ranged a b
 unfolding periodsOf periodOf periodFits rowsOf rowOf rowFits rulesOf ruleOf ruleFits keyFits holds

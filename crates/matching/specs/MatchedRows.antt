@@ -1,5 +1,6 @@
--- Which rules have a row that matches a question, over the places of the lent book: a pass over the periods and one over the rows. A pass leaves marks, tests of the
--- keys of a table of numbers; each definition is of any bytes. Assumes nothing.
+-- Which rules have a row that matches a question, over the places of the lent book: a pass over the periods and one
+-- over the rows. A pass leaves marks, tests of the keys of a table of numbers; each definition is of any bytes. Assumes
+-- nothing.
 use Prim.Native.Nat.{ℕ, zero, suc, _+_, _*_}
 use mathlib.Core.Bool.{Bool, false, _&&_, _||_, cond}
 use mathlib.Core.List.{List, [], _∷_}

@@ -1,4 +1,5 @@
-// Which rules have a row that matches a question (document 01, 'How a question is judged'): the codes that the question's party, account and security bear, then the rows.
+// Which rules have a row that matches a question (document 01, 'How a question is judged'): the codes that the
+// question's party, account and security bear, then the rows.
 ghost use mathlib.Core.Path.{_≡_};
 ghost use lib.ListN.{length};
 ghost use Rattle.tables.specs.Keyed.{Blank};
@@ -135,7 +136,8 @@ fn codes_borne(t: &mut [u8], b: &[u8], q: Question)
     }
 }
 
-// 2. The rules of which a row matches. A row fills exactly its rule's criteria, so its filled values tell which are tested.
+// 2. The rules of which a row matches. A row fills exactly its rule's criteria, so its filled values tell which are
+// tested.
 
 // Whether the question meets a value at a criterion.
 fn criterion_met(i: u8, v: u32, q: Question, codes: &[u8]) -> bool

@@ -121,7 +121,8 @@ fn currency_or(n: u32) -> bool
     or(n == 0, three_letters(n))
 }
 
-// The three codes and the currency; transaction, security and account before them; party type, movement and payment before these.
+// The three codes and the currency; transaction, security and account before them; party type, movement and payment
+// before these.
 
 fn codes_fit(v: [u32; 10]) -> bool
     ensures { λ r. ⌜ r ≡ codesFit v ⌝ }

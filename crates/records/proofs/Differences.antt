@@ -1,20 +1,22 @@
--- Laws of `firstDifference`: below it two lists agree, there they differ, and where it is their length they are the same. They serve
--- 'the same row' and an order of rows by their values.
-use Prim.Native.Nat.{ℕ, zero, suc, _<_, compare·suc-suc}
+-- Laws of `firstDifference`: below it two lists agree, there they differ, and where it is their length they are the
+-- same. They serve 'the same row' and an order of rows by their values.
+use Prim.Native.Nat.{ℕ, zero, suc, _<_}
 use mathlib.Core.Path.{_≡_, refl, sym, _∙_, ap, ap₂}
 use mathlib.Core.List.{List, [], _∷_}
 use native.Mathlib.Omega.{arith}
 use lib.Dec.{eqb}
 use lib.ListN.{length, getD}
-use borrow.Author.Tests.{eq-eqb, ne-eqb}
-use Rattle.tables.proofs.Counts.{cases-eq}
+use borrow.Author.Tests.{eq-eqb, ne-eqb, eqb-true}
+use Rattle.tables.proofs.Counts.{cases-eq, agree}
 use Rattle.meaning.specs.Text.{same}
+use Rattle.meaning.proofs.SameLists.{same-self, same-numbers}
 use Rattle.records.specs.Values.{firstDifference}
 
 -- ---- what the loop finds
 
 -- An index at which they differ, below which they agree.
-pub differ-at : (u v : List ℕ) (i : ℕ) → ((k : ℕ) → k < i → getD u k 0 ≡ getD v k 0) → (getD u i 0 ≡ getD v i 0 → ⊥) → i < length u → i < length v → i ≡ firstDifference u v
+pub differ-at : (u v : List ℕ) (i : ℕ) → ((k : ℕ) → k < i → getD u k 0 ≡ getD v k 0) → (getD u i 0 ≡ getD v i 0 → ⊥)
+    → i < length u → i < length v → i ≡ firstDifference u v
 unfolding firstDifference
 differ-at [] v i a d l m = absurd (omega arith)
 differ-at (x ∷ u) [] i a d l m = absurd (omega arith)
@@ -24,7 +26,8 @@ differ-at (x ∷ u) (y ∷ v) (suc i) a d l m =
     (ap suc (differ-at u v i (λ k h. a (suc k) (omega arith)) d (omega arith) (omega arith)))
 
 -- No such index.
-pub agree-to : (u v : List ℕ) (n : ℕ) → ((k : ℕ) → k < n → getD u k 0 ≡ getD v k 0) → length u ≡ n → length v ≡ n → n ≡ firstDifference u v
+pub agree-to : (u v : List ℕ) (n : ℕ) → ((k : ℕ) → k < n → getD u k 0 ≡ getD v k 0) → length u ≡ n → length v ≡ n
+    → n ≡ firstDifference u v
 unfolding firstDifference
 agree-to [] [] n a l m = omega arith
 agree-to [] (y ∷ v) n a l m = absurd (omega arith)
@@ -62,12 +65,8 @@ difference (x ∷ u) (y ∷ v) l =
 
 -- ---- the same row
 
-same-by : (u v : List ℕ) → length u ≡ length v → eqb (firstDifference u v) (length u) ≡ same u v
-unfolding firstDifference
-same-by [] [] l = refl
-same-by [] (y ∷ v) l = absurd (omega arith)
-same-by (x ∷ u) [] l = absurd (omega arith)
-same-by (x ∷ u) (y ∷ v) l = cases-eq x y (λ e. rw (eq-eqb x y e, compare·suc-suc) (same-by u v (omega arith))) (λ d. rw (ne-eqb x y d) (ne-eqb 0 (suc (length u)) (λ z. omega arith)))
-
 pub same-first : (u v : List ℕ) (n r : ℕ) → r ≡ firstDifference u v → length u ≡ n → length v ≡ n → eqb r n ≡ same u v
-same-first u v n r e l m = rw (e, sym l) (same-by u v (l ∙ sym m))
+same-first u v n r e l m =
+    agree (eqb r n) (same u v)
+    (λ t. rw (difference u v (l ∙ sym m) .none (sym e ∙ eqb-true r n t ∙ sym l)) (same-self v))
+    (λ t. eq-eqb r n (e ∙ sym (agree-to u v n (λ k h. ap (λ w. getD w k 0) (same-numbers u v t)) l m)))

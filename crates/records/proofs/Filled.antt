@@ -1,5 +1,5 @@
--- The criteria that a row fills: criteria are the row's exactly if each criterion belongs to them whose value is filled, and then
--- as many belong to them as values are filled.
+-- The criteria that a row fills: criteria are the row's exactly if each criterion belongs to them whose value is
+-- filled, and then as many belong to them as values are filled.
 use Prim.Native.Nat.{ℕ, zero, suc, _+_, _*_, _/_, _%_, _^_, _≤_, _<_}
 use mathlib.Core.Path.{_≡_, refl, sym, _∙_, ap}
 use mathlib.Core.Bool.{Bool, false, _&&_, not}
@@ -47,18 +47,19 @@ filled-at (x ∷ v) zero l = lowest (filled (x ∷ v)) ∙ filled-low x v
 filled-at (x ∷ v) (suc i) l =
     ap bit (higher (filled (x ∷ v)) i ∙ ap (λ n. belongs n i) (filled-half x v)) ∙ filled-at v i (omega arith)
 
-pub filled-below : (v : List ℕ) → filled v < 2 ^ length v
+filled-below : (v : List ℕ) → filled v < 2 ^ length v
 filled-below [] = omega arith
 filled-below (x ∷ v) = omega (arith, filled-cons x v, bit-most (ltb 0 x), filled-below v, pow-succ' 2 (length v))
 
-only-filled : (v : List ℕ) (c : ℕ) → ((i : ℕ) → i < length v → bit (belongs c i) ≡ bit (ltb 0 (getD v i 0))) → c < 2 ^ length v → c ≡ filled v
+only-filled : (v : List ℕ) (c : ℕ) → ((i : ℕ) → i < length v → bit (belongs c i) ≡ bit (ltb 0 (getD v i 0)))
+    → c < 2 ^ length v → c ≡ filled v
 only-filled [] c h l = omega arith
 only-filled (x ∷ v) c h l =
     let e = only-filled v (c / 2) (λ i u. ap bit (sym (higher c i)) ∙ h (suc i) (omega arith)) (omega (arith, pow-succ' 2 (length v))) in
     omega (arith, e, lowest c, h 0 (omega arith), filled-cons x v)
 
 -- as many belong to a row's criteria as values are filled
-pub ones-filled : (v : List ℕ) → ones (filled v) ≡ filledCount v
+ones-filled : (v : List ℕ) → ones (filled v) ≡ filledCount v
 unfolding filledCount count ones
 ones-filled [] = refl
 ones-filled (x ∷ v) = omega (arith, ones-step (filled (x ∷ v)), filled-low x v, ap ones (filled-half x v), ones-filled v)
@@ -83,7 +84,8 @@ belongs-none c i h l = let e : c / 2 ^ i ≡ 0 = div-eq-of-lt (lt-of-lt-of-le h 
 pub fills-none : (c n : ℕ) (v : List ℕ) → n ≡ filledCount v → (ones c ≡ n → ⊥) → false ≡ eqb c (filled v)
 fills-none c n v e h = sym (ne-eqb c (filled v) (λ z. h (ap ones z ∙ ones-filled v ∙ sym e)))
 
-pub fills-all : (c : ℕ) (v : List ℕ) (a r : Bool) → length v ≡ 10 → a ≡ allBelow (agrees c v) 10 → r ≡ (ltb c 1024 && a) → r ≡ eqb c (filled v)
+pub fills-all : (c : ℕ) (v : List ℕ) (a r : Bool) → length v ≡ 10 → a ≡ allBelow (agrees c v) 10 → r ≡ (ltb c 1024 && a)
+    → r ≡ eqb c (filled v)
 unfolding agrees
 fills-all c v a r len e f =
     rw (f, e)

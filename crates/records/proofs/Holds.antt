@@ -1,4 +1,5 @@
--- A record in its range, of a depository, fits the widths of its place, so that it reads back once stored (`places/proofs/Stores`).
+-- A record in its range, of a depository, fits the widths of its place, so that it reads back once stored
+-- (`places/proofs/Stores`).
 use Prim.Native.Nat.{ℕ, _/_, _≤_, _<_}
 use mathlib.Core.Path.{_≡_, ap, _∙_}
 use mathlib.Core.Bool.{true}
@@ -76,7 +77,8 @@ rule-hold r c e =
     also omega (arith, day-most (r .last) (search ands))
     also tt
 
-pub row-hold : (r : Row) → r .csd ≤ 8 → length (r .values) ≡ 10 → rowFits (rowOf r) ≡ true → Hold rowWidths (rowNumbers r)
+pub row-hold : (r : Row) → r .csd ≤ 8 → length (r .values) ≡ 10 → rowFits (rowOf r) ≡ true
+    → Hold rowWidths (rowNumbers r)
 unfolding rowFits keyFits rowOf holds holdsAll
 row-hold r c len e =
     let f : holdsAll tenValues (r .values) ≡ true = search ands in

@@ -29,11 +29,13 @@ pub rule-any : (q : RuleAsk) (w : M.Row) (t : M.Rule) → q ≡ Rules.Any → tr
 unfolding ruleMeets
 rule-any q w t e = rw e
 
-pub rule-named : (q : RuleAsk) (w : M.Row) (t : M.Rule) (n o s : ℕ) (r : Bool) → q ≡ Rules.Named n o s → r ≡ isRule n o s t → r ≡ ruleMeets q w t
+pub rule-named : (q : RuleAsk) (w : M.Row) (t : M.Rule) (n o s : ℕ) (r : Bool) → q ≡ Rules.Named n o s
+    → r ≡ isRule n o s t → r ≡ ruleMeets q w t
 unfolding ruleMeets
 rule-named q w t n o s r e f = rw (e, f)
 
-pub rule-met : (q q′ : RuleAsk) (w : M.Row) (t : M.Rule) (r : Bool) → q ≡ q′ → r ≡ ruleMeets q′ w t → r ≡ ruleMeets q w t
+pub rule-met : (q q′ : RuleAsk) (w : M.Row) (t : M.Rule) (r : Bool) → q ≡ q′ → r ≡ ruleMeets q′ w t
+    → r ≡ ruleMeets q w t
 rule-met q q′ w t r e f = rw (e, f)
 
 pub row-any : (q : RowAsk) (w t : M.Row) → q ≡ Rows.Any → true ≡ rowMeets q w t
@@ -52,23 +54,28 @@ period-met q q′ t r e f = rw (e, f)
 
 -- A rule or a row by its key first, and its values only then.
 
-pub fills-yes : (w : M.Row) (t : M.Rule) (k r : Bool) → k ≡ isRule (w .type) (w .object) (w .sequence) t → k ≡ true → r ≡ eqb (t .criteria) (filled (w .values)) → r ≡ ruleMeets Rules.Fills w t
+pub fills-yes : (w : M.Row) (t : M.Rule) (k r : Bool) → k ≡ isRule (w .type) (w .object) (w .sequence) t → k ≡ true
+    → r ≡ eqb (t .criteria) (filled (w .values)) → r ≡ ruleMeets Rules.Fills w t
 unfolding ruleMeets fillsRule
 fills-yes w t k r e f g = rw (sym e ∙ f) g
 
-pub fills-no : (w : M.Row) (t : M.Rule) (k : Bool) → k ≡ isRule (w .type) (w .object) (w .sequence) t → k ≡ false → false ≡ ruleMeets Rules.Fills w t
+pub fills-no : (w : M.Row) (t : M.Rule) (k : Bool) → k ≡ isRule (w .type) (w .object) (w .sequence) t → k ≡ false
+    → false ≡ ruleMeets Rules.Fills w t
 unfolding ruleMeets fillsRule
 fills-no w t k e f = rw (sym e ∙ f)
 
-pub other-yes : (w : M.Row) (t : M.Rule) (k r s : Bool) → k ≡ isRule (w .type) (w .object) (w .sequence) t → k ≡ true → r ≡ eqb (t .criteria) (filled (w .values)) → s ≡ not r → s ≡ ruleMeets Rules.Other w t
+pub other-yes : (w : M.Row) (t : M.Rule) (k r s : Bool) → k ≡ isRule (w .type) (w .object) (w .sequence) t → k ≡ true
+    → r ≡ eqb (t .criteria) (filled (w .values)) → s ≡ not r → s ≡ ruleMeets Rules.Other w t
 unfolding ruleMeets otherCriteria
 other-yes w t k r s e f g h = rw (sym e ∙ f, h, g)
 
-pub other-no : (w : M.Row) (t : M.Rule) (k : Bool) → k ≡ isRule (w .type) (w .object) (w .sequence) t → k ≡ false → false ≡ ruleMeets Rules.Other w t
+pub other-no : (w : M.Row) (t : M.Rule) (k : Bool) → k ≡ isRule (w .type) (w .object) (w .sequence) t → k ≡ false
+    → false ≡ ruleMeets Rules.Other w t
 unfolding ruleMeets otherCriteria
 other-no w t k e f = rw (sym e ∙ f)
 
-pub same-yes : (w t : M.Row) (k r : Bool) → k ≡ rowMeets Rows.OfRule w t → k ≡ true → r ≡ same (w .values) (t .values) → r ≡ rowMeets Rows.Same w t
+pub same-yes : (w t : M.Row) (k r : Bool) → k ≡ rowMeets Rows.OfRule w t → k ≡ true → r ≡ same (w .values) (t .values)
+    → r ≡ rowMeets Rows.Same w t
 unfolding rowMeets isRow
 same-yes w t k r e f g = rw (sym e ∙ f) g
 

@@ -1,4 +1,5 @@
--- The ten values of a row: a list of ten is its ten elements, so that what is said of a list is what the code says of each.
+-- The ten values of a row: a list of ten is its ten elements, so that what is said of a list is what the code says of
+-- each.
 use Prim.Native.Nat.{ℕ, _+_}
 use mathlib.Core.Path.{_≡_, _∙_, ap, ap₂}
 use mathlib.Core.List.{List, [], _∷_}
@@ -22,5 +23,6 @@ explicit-count : (v : List ℕ) → five v 0 + five v 5 ≡ filledCount (explici
 unfolding filledCount count
 explicit-count v = omega arith
 
-pub count-ten : (v : List ℕ) (low high : ℕ) → length v ≡ 10 → low ≡ five v 0 → high ≡ five v 5 → low + high ≡ filledCount v
+pub count-ten : (v : List ℕ) (low high : ℕ) → length v ≡ 10 → low ≡ five v 0 → high ≡ five v 5
+    → low + high ≡ filledCount v
 count-ten v low high e l h = ap₂ (λ x y. x + y) l h ∙ explicit-count v ∙ ap filledCount (ten v e)

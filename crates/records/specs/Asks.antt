@@ -19,7 +19,8 @@ typeMeets Types.Any t = true
 typeMeets (Types.Named n o) t = isType n o t
 typeMeets (Types.Outside n o last) t = typeOutside n o last t
 
--- a row stands beside what is asked of a rule, since no enum of the code may hold an array: Fills and Other ask for its rule
+-- a row stands beside what is asked of a rule, since no enum of the code may hold an array: Fills and Other ask for its
+-- rule
 unfoldable pub ruleMeets : RuleAsk → M.Row → M.Rule → Bool
 ruleMeets Rules.Any w r = true
 ruleMeets (Rules.Named n o s) w r = isRule n o s r

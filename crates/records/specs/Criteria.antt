@@ -1,4 +1,5 @@
--- Criteria as the sum of their weights, and the values that a row fills (document 01, 'Lines' and 'Records'). Assumes nothing.
+-- Criteria as the sum of their weights, and the values that a row fills (document 01, 'Lines' and 'Records'). Assumes
+-- nothing.
 use Prim.Native.Nat.{ℕ, _/_, _%_, _^_}
 use mathlib.Core.Bool.{Bool}
 use mathlib.Core.List.{List}

@@ -1,4 +1,5 @@
--- Where each rule stands at the place of its sequence, the search finds the least sequence of a matching positive rule. Assumes nothing.
+-- Where each rule stands at the place of its sequence, the search finds the least sequence of a matching positive rule.
+-- Assumes nothing.
 use Prim.Native.Nat.{ℕ, zero, suc, _+_, _-_, _≤_, _<_}
 use mathlib.Core.Path.{_≡_, refl, ap, sym, _∙_}
 use mathlib.Core.Bool.{Bool, true, false, cond}
@@ -16,7 +17,8 @@ use Rattle.rules.specs.declared.ListedRule.{ListedRule}
 use Rattle.rules.proofs.Turns.{hits, misses, ended}
 
 -- One place more: l is the least sequence before place i, s what is found from it on, s′ what is found after it.
-turn : (a : Bool) (i l s s′ n : ℕ) → l ≤ i → (a ≡ true → (1 ≤ i) × (s ≡ i)) → (a ≡ false → s ≡ s′) → cond (eqb (lesser (cond a i 0) l) 0) s′ (lesser (cond a i 0) l) ≡ n → cond (eqb l 0) s l ≡ n
+turn : (a : Bool) (i l s s′ n : ℕ) → l ≤ i → (a ≡ true → (1 ≤ i) × (s ≡ i)) → (a ≡ false → s ≡ s′)
+    → cond (eqb (lesser (cond a i 0) l) 0) s′ (lesser (cond a i 0) l) ≡ n → cond (eqb l 0) s l ≡ n
 turn true i zero s s′ n h at on e = at refl .1 ∙ (rw (sym (lesser-only i 0 refl), ne-eqb i 0 (λ z. let o = at refl .0 in omega arith)) at e)
 turn true i (suc l) s s′ n h at on e = rw (ne-eqb (suc l) 0 (λ z. omega arith)) (rw (sym (lesser-high i (suc l) (omega arith) h), ne-eqb (suc l) 0 (λ z. omega arith)) at e)
 turn false i zero s s′ n h at on e = on refl ∙ e
@@ -26,7 +28,8 @@ whole : (n : ℕ) → cond (eqb n 0) 0 n ≡ n
 whole zero = refl
 whole (suc n) = rw (ne-eqb (suc n) 0 (λ z. omega arith))
 
--- p says of each sequence from 1 whether the rule there may decide. None may that stands at place 0: no rule has sequence 0.
+-- p says of each sequence from 1 whether the rule there may decide. None may that stands at place 0: no rule has
+-- sequence 0.
 module _ (t : List ListedRule) (p : ℕ → Bool) (none : mayDecide (getD t 0 noRule) ≡ false) (may : (k : ℕ) → 1 ≤ k → k < length t → mayDecide (getD t k noRule) ≡ p k) (named : (k : ℕ) → 1 ≤ k → k < length t → getD t k noRule .sequence ≡ k) where
   least : ℕ → ℕ
   least n = leastBelow (λ s. cond (p s) s 0) n
@@ -50,7 +53,8 @@ module _ (t : List ListedRule) (p : ℕ → Bool) (none : mayDecide (getD t 0 no
   at-zero = cases (p 0) (λ e. rw e) (λ e. rw e)
 
   -- what is found from place i on, unless one before it was found
-  from : (m i : ℕ) → 1 ≤ i → i + m ≡ length t → cond (eqb (least i) 0) (sequenceOf (firstPositive (drop i t))) (least i) ≡ least (length t)
+  from : (m i : ℕ) → 1 ≤ i → i + m ≡ length t
+      → cond (eqb (least i) 0) (sequenceOf (firstPositive (drop i t))) (least i) ≡ least (length t)
   unfolding least
   from zero i o e =
       let all : i ≡ length t = omega arith in

@@ -1,5 +1,5 @@
--- What the returns of `may_decide` leave to show; and what one turn of the search does to the definition: a rule that may decide is the
--- answer, else the rest is searched, and past the end there is nothing.
+-- What the returns of `may_decide` leave to show; and what one turn of the search does to the definition: a rule that
+-- may decide is the answer, else the rest is searched, and past the end there is nothing.
 use mathlib.Core.Path.{_≡_, refl, sym, ap, _∙_}
 use mathlib.Core.Bool.{Bool, true, false, not, cond}
 use mathlib.Core.List.{List}

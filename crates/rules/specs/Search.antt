@@ -1,4 +1,5 @@
--- What a search over a list of rules finds: the sequence of the first rule that is positive and matches, or nothing. Assumes nothing.
+-- What a search over a list of rules finds: the sequence of the first rule that is positive and matches, or nothing.
+-- Assumes nothing.
 use Prim.Native.Nat.{ℕ}
 use mathlib.Core.Bool.{Bool, false, _&&_, cond}
 use mathlib.Core.List.{List, [], _∷_}

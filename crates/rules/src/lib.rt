@@ -1,5 +1,5 @@
-// The rules of a type, looked through in rising sequence (document 01, 'How a question is judged'). The work on one rule is done by value,
-// and the search over the lent slice only reads a rule, asks and returns.
+// The rules of a type, looked through in rising sequence (document 01, 'How a question is judged'). The work on one
+// rule is done by value, and the search over the lent slice only reads a rule, asks and returns.
 ghost use mathlib.Core.Path.{_≡_};
 ghost use Rattle.rules.specs.Search.{mayDecide, firstPositive};
 use places::Rule;

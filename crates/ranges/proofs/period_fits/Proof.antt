@@ -1,4 +1,5 @@
--- `ranges::period_fits` meets its contract; facts are named, so that a wrong one is refused for certain. Assumes nothing.
+-- `ranges::period_fits` meets its contract; facts are named, so that a wrong one is refused for certain. Assumes
+-- nothing.
 use Rattle.ranges.proofs.RangeReturns.{period-said}
 use borrow.Author.Needs.{needs}
 use Rattle.ranges.proofs.period_fits.Statement.{statement}

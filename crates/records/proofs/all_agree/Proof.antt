@@ -1,4 +1,5 @@
--- `records::all_agree` meets its contract. The invariant: what was found is that the criteria passed agree. Assumes nothing.
+-- `records::all_agree` meets its contract. The invariant: what was found is that the criteria passed agree. Assumes
+-- nothing.
 use Rattle.tables.specs.Count.{allBelow}
 use Rattle.tables.proofs.Counts.{all-none, all-more}
 use Rattle.records.specs.Criteria.{agrees}

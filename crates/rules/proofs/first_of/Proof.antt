@@ -1,5 +1,6 @@
--- `rules::first_of` meets its contract: a walk of its MIR, by hand. The array is copied to a memory slot, which is lent whole for a lifetime that the walk makes, as a slice; `first_positive` is called; the lifetime ends, and the slot is back.
--- Assumes nothing.
+-- `rules::first_of` meets its contract: a walk of its MIR, by hand. The array is copied to a memory slot, which is lent
+-- whole for a lifetime that the walk makes, as a slice; `first_positive` is called; the lifetime ends, and the slot is
+-- back. Assumes nothing.
 use mathlib.Core.Path.{_≡_, refl, sym}
 use Prim.Native.Nat.{ℕ}
 use native.Mathlib.Omega.{arith}

@@ -1,6 +1,6 @@
--- `rules::first_positive` meets its contract: a walk of its MIR, by hand, with a loop. A turn reads one rule and calls `may_decide`; it returns, or goes on at i + 1.
--- The loop's variant is i, with the facts that the invariant states: i is at most the length, and what is found from i on is what is found in all.
--- Assumes nothing.
+-- `rules::first_positive` meets its contract: a walk of its MIR, by hand, with a loop. A turn reads one rule and calls
+-- `may_decide`; it returns, or goes on at i + 1. The loop's variant is i, with the facts that the invariant states: i
+-- is at most the length, and what is found from i on is what is found in all. Assumes nothing.
 use mathlib.Core.Path.{_≡_, refl, sym, ap, _∙_}
 use Prim.Native.Nat.{ℕ, _+_, _-_, _*_, _≤_, _<_, _^_, zero-le}
 use native.Mathlib.Omega.{arith}
