@@ -15,7 +15,7 @@ WHAT = {
     "RestrictionType": "A restriction type of a depository: what becomes of an object that its rules match.",
     "Rule": "A rule of a type, with the criteria that its rows fill.",
     "Row": "A row of a rule: its ten values, 0 where empty.",
-    "Period": "An attribute period: the days on which a party, an account or a security hasCode a code.",
+    "Period": "An attribute period: the days on which a party, an account or a security has a code.",
 }
 # numbers that a field may hold, by name, as document 01 names them
 NAMED = {
@@ -50,7 +50,7 @@ for s, n, places, quota, fields in TABLES:
 
 # ---- the code
 code = open("tools/places.head.txt").read()
-code = code.replace("BYTES", str(start)).replace("LAYOUT", ", ".join(f"{n}At, zero{n.capitalize()}" for _, n, *_ in layout))
+code = code.replace("BYTES", str(start)).replace("{LAYOUT}", "{%s}" % ", ".join(f"{n}At, zero{n.capitalize()}" for _, n, *_ in layout))
 store = open("tools/stores.head.txt").read()
 store = store.replace("LAYOUT", ", ".join(f"put{n.capitalize()}" for _, n, *_ in layout))
 store = store.replace("USES", "".join(f"use places::{s};\n" for s in sorted(s for s, *_ in layout)))

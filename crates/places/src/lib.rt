@@ -5,7 +5,7 @@ ghost use Rattle.tables.specs.Bytes.{byteAt, one, two, three, four, number};
 ghost use Rattle.places.specs.Layout.{typeAt, zeroType, ruleAt, zeroRule, rowAt, zeroRow, periodAt, zeroPeriod};
 use basics::wide;
 
-// The book's exact size in bytes (docs/typeAt, zeroType, ruleAt, zeroRule, rowAt, zeroRow, periodAt, zeroPeriod.md).
+// The book's exact size in bytes (docs/LAYOUT.md).
 pub const SIZE: usize = 51200;
 
 // The address of place i of a table that starts at an address and has places of a width.
@@ -351,7 +351,7 @@ pub fn row_at(b: &[u8], i: u16) -> Row
     }
 }
 
-// An attribute period: the days on which a party, an account or a security hasCode a code.
+// An attribute period: the days on which a party, an account or a security has a code.
 pub struct Period {
     pub csd: u8,
     pub kind: u8,
