@@ -350,7 +350,7 @@ pub fn row_at(b: &[u8], i: u16) -> Row
     }
 }
 
-// An attribute period: the days on which a party, an account or a security hasCode a code.
+// An attribute period: the days on which a party, an account or a security has a code.
 pub struct Period {
     pub csd: u8,
     pub kind: u8,
