@@ -1,6 +1,6 @@
 // The records of the book by value, and their reading at a place. Written by tools/places.py.
 ghost use mathlib.Core.Path.{_≡_};
-ghost use Prim.Native.Nat.{_+_, _*_, _≤_};
+ghost use Prim.Native.Nat.{_+_, _*_};
 ghost use Rattle.tables.specs.Bytes.{byteAt, one, two, three, four, number};
 ghost use Rattle.places.specs.Layout.{typeAt, zeroType, ruleAt, zeroRule, rowAt, zeroRow, periodAt, zeroPeriod};
 use basics::wide;
@@ -11,7 +11,6 @@ pub const SIZE: usize = 51200;
 // The address of place i of a table that starts at an address and has places of a width.
 pub fn address(start: u16, width: u8, i: u16) -> u32
     ensures { λ r. ⌜ r ≡ start + i * width ⌝ }
-    ensures { λ r. ⌜ r ≤ 16776960 ⌝ }
 {
     start as u32 + i as u32 * width as u32
 }
