@@ -1,7 +1,7 @@
 #!/usr/bin/env python3
 """Writes that a store at one place keeps every place free or a depository's, for each table (crates/edits/proofs/Placed.antt).
 Usage: placed.py (in the repository's root), then rt fmt."""
-T = [("type", "RestrictionType", 128, 12), ("rule", "Rule", 512, 15), ("row", "Row", 1024, 26), ("period", "Period", 1024, 15)]
+T = [("type", "RestrictionType"), ("rule", "Rule"), ("row", "Row"), ("period", "Period")]
 names = [n for n, *_ in T]
 out = """-- A store keeps every place free or a depository's. Written by tools/placed.py.
 use Prim.Native.Nat.{ℕ, _+_, _≤_, _<_}
@@ -15,12 +15,13 @@ use Rattle.tables.specs.Count.{allBelow}
 use Rattle.tables.specs.Bytes.{Hold}
 use Rattle.tables.proofs.Counts.{cases-eq, ands, all-at, all-put}
 use Rattle.meaning.specs.Fields.{within}
+use Rattle.places.specs.Layout.{bookSize}
 use Rattle.book.specs.Sound.{placed, allPlaced}
 """
-for n, S, N, z in T:
+for n, S in T:
     P = n.capitalize()
     out += f"use Rattle.places.specs.declared.{S}.{{{S}}}\n"
-    out += f"use Rattle.places.specs.Layout.{{{n}At, put{P}, {n}Widths, {n}Numbers}}\n"
+    out += f"use Rattle.places.specs.Layout.{{{n}Places, {n}At, put{P}, {n}Widths, {n}Numbers}}\n"
     out += f"use Rattle.places.proofs.Stores.{{{n}-back, {n}-other, " + ", ".join(f"{m}-by-{n}" for m in names if m != n) + "}\n"
     out += f"use Rattle.records.specs.Free.{{{n}Zero}}\n"
 out += """
@@ -44,22 +45,22 @@ of-one t c l h = rw (le-leb 1 c l, le-leb c 8 h) (or-true t)
 four : (a b c d : Bool) → a ≡ true → b ≡ true → c ≡ true → d ≡ true → ((a && b) && (c && d)) ≡ true
 four a b c d w x y z = rw (w, x, y, z)
 """
-for n, S, N, z in T:
+for n, S in T:
     P = n.capitalize()
     ten = "length (r .values) ≡ 10 → " if n == "row" else ""
     v = "v " if n == "row" else ""
     out += f"""
-pub {n}-placed : (b : List ℕ) (i : ℕ) (r : {S}) → i < {N} → {ten}Hold {n}Widths ({n}Numbers r) → length b ≡ 51200 → ({n}Zero r || within 1 8 (r .csd)) ≡ true → allPlaced b ≡ true → allPlaced (put{P} b i r) ≡ true
+pub {n}-placed : (b : List ℕ) (i : ℕ) (r : {S}) → i < {n}Places → {ten}Hold {n}Widths ({n}Numbers r) → length b ≡ bookSize → ({n}Zero r || within 1 8 (r .csd)) ≡ true → allPlaced b ≡ true → allPlaced (put{P} b i r) ≡ true
 unfolding allPlaced
 {n}-placed b i r l {v}h s o e =
     four _ _ _ _
 """
-    for m, mS, mN, _ in T:
+    for m, _ in T:
         if m == n:
-            out += f"""    (placed-put (λ x. x .csd) {n}Zero ({n}At b) ({n}At (put{P} b i r)) {N} (search ands) i ({n}-other b i r)
+            out += f"""    (placed-put (λ x. x .csd) {n}Zero ({n}At b) ({n}At (put{P} b i r)) {n}Places (search ands) i ({n}-other b i r)
     (rw ({n}-back b i r {v}h (omega arith)) o))
 """
         else:
-            out += f"""    (placed-same (λ x. x .csd) {m}Zero ({m}At b) ({m}At (put{P} b i r)) {mN} (search ands) ({m}-by-{n} b i r l))
+            out += f"""    (placed-same (λ x. x .csd) {m}Zero ({m}At b) ({m}At (put{P} b i r)) {m}Places (search ands) ({m}-by-{n} b i r l))
 """
 open("crates/edits/proofs/Placed.antt", "w").write(out)

@@ -2,59 +2,61 @@
 use Prim.Native.Nat.{ℕ, _≤_, _<_}
 use mathlib.Core.Path.{_≡_, ap, sym, _∙_}
 use mathlib.Core.Bool.{Bool, true, false}
-use mathlib.Core.List.{List, [], _∷_}
+use mathlib.Core.List.{List}
 use lib.Dec.{eqb}
 use borrow.Author.Tests.{lt-ltb, le-ltb, eq-eqb, ne-eqb}
 use Rattle.meaning.specs.Keys.{ofRule}
-use Rattle.meaning.specs.Records.{_!_}
-use Rattle.places.specs.Layout.{putType, ruleAt, putRule, rowAt, putRow, zeroRow, putPeriod, typeAt, periodAt, zeroRule}
+use Rattle.places.specs.Layout.{typePlaces, rulePlaces, rowPlaces, periodPlaces, putType, ruleAt, putRule, rowAt, putRow, zeroRow, putPeriod, typeAt, periodAt, zeroRule}
 use Rattle.places.specs.declared.RestrictionType.{RestrictionType}
 use Rattle.places.specs.declared.Rule.{Rule}
 use Rattle.places.specs.declared.Row.{Row}
 use Rattle.places.specs.declared.Period.{Period}
-use Rattle.records.specs.Said.{rowOf}
+use Rattle.records.specs.Said.{typeOf, ruleOf, rowOf, periodOf}
 use Rattle.records.specs.Asks.{rowMeets}
 use Rattle.records.specs.declared.TypeAsk.the-variants as Types
 use Rattle.records.specs.declared.RuleAsk.the-variants as Rules
 use Rattle.records.specs.declared.RowAsk.the-variants as Rows
 use Rattle.records.specs.declared.PeriodAsk.the-variants as Periods
+use Rattle.commands.specs.Asked.{askedBy, asked}
+use Rattle.commands.specs.declared.Question.{Question}
+use Rattle.commands.specs.declared.What.the-variants as What
+use Rattle.commands.specs.declared.Command.{Command}
 use Rattle.book.specs.Places.{typePlace, rulePlace, rowPlace, periodPlace}
-use Rattle.edits.specs.Asked.{byte, ruleFrom, rowFrom}
 use Rattle.edits.specs.Moves.{ruleWith, rowWith, carryRow, carryRows}
-use Rattle.edits.specs.Edit.{freeType, freeRule, freeRow, freePeriod, typeEnded, periodEnded, storeType, storeRule, storeRow, storePeriod, endedType, endedPeriod, deletedRule, deletedRow, reorderedRule}
+use Rattle.edits.specs.Edit.{typeIn, ruleIn, rowIn, periodIn, freeType, freeRule, freeRow, freePeriod, typeEnded, periodEnded, storeType, storeRule, storeRow, storePeriod, endedType, endedPeriod, deletedRule, deletedRow, reorderedRule, editIn}
 
 module _ (b b′ : List ℕ) (i : ℕ) where
-  pub type-stored : (r : RestrictionType) → i < 128 → b′ ≡ putType b i r → b′ ≡ storeType b i r
+  pub type-stored : (r : RestrictionType) → i < typePlaces → b′ ≡ putType b i r → b′ ≡ storeType b i r
   unfolding storeType
-  type-stored r l e = rw (lt-ltb i 128 l) e
+  type-stored r l e = rw (lt-ltb i typePlaces l) e
 
-  pub type-unstored : (r : RestrictionType) → 128 ≤ i → b ≡ storeType b i r
+  pub type-unstored : (r : RestrictionType) → typePlaces ≤ i → b ≡ storeType b i r
   unfolding storeType
-  type-unstored r l = rw (le-ltb i 128 l)
+  type-unstored r l = rw (le-ltb i typePlaces l)
 
-  pub rule-stored : (r : Rule) → i < 512 → b′ ≡ putRule b i r → b′ ≡ storeRule b i r
+  pub rule-stored : (r : Rule) → i < rulePlaces → b′ ≡ putRule b i r → b′ ≡ storeRule b i r
   unfolding storeRule
-  rule-stored r l e = rw (lt-ltb i 512 l) e
+  rule-stored r l e = rw (lt-ltb i rulePlaces l) e
 
-  pub rule-unstored : (r : Rule) → 512 ≤ i → b ≡ storeRule b i r
+  pub rule-unstored : (r : Rule) → rulePlaces ≤ i → b ≡ storeRule b i r
   unfolding storeRule
-  rule-unstored r l = rw (le-ltb i 512 l)
+  rule-unstored r l = rw (le-ltb i rulePlaces l)
 
-  pub row-stored : (r : Row) → i < 1024 → b′ ≡ putRow b i r → b′ ≡ storeRow b i r
+  pub row-stored : (r : Row) → i < rowPlaces → b′ ≡ putRow b i r → b′ ≡ storeRow b i r
   unfolding storeRow
-  row-stored r l e = rw (lt-ltb i 1024 l) e
+  row-stored r l e = rw (lt-ltb i rowPlaces l) e
 
-  pub row-unstored : (r : Row) → 1024 ≤ i → b ≡ storeRow b i r
+  pub row-unstored : (r : Row) → rowPlaces ≤ i → b ≡ storeRow b i r
   unfolding storeRow
-  row-unstored r l = rw (le-ltb i 1024 l)
+  row-unstored r l = rw (le-ltb i rowPlaces l)
 
-  pub period-stored : (r : Period) → i < 1024 → b′ ≡ putPeriod b i r → b′ ≡ storePeriod b i r
+  pub period-stored : (r : Period) → i < periodPlaces → b′ ≡ putPeriod b i r → b′ ≡ storePeriod b i r
   unfolding storePeriod
-  period-stored r l e = rw (lt-ltb i 1024 l) e
+  period-stored r l e = rw (lt-ltb i periodPlaces l) e
 
-  pub period-unstored : (r : Period) → 1024 ≤ i → b ≡ storePeriod b i r
+  pub period-unstored : (r : Period) → periodPlaces ≤ i → b ≡ storePeriod b i r
   unfolding storePeriod
-  period-unstored r l = rw (le-ltb i 1024 l)
+  period-unstored r l = rw (le-ltb i periodPlaces l)
 
 -- ---- O: a row is carried along if it is the depository's and of the rule
 
@@ -77,25 +79,14 @@ pub row-of-neighbour : (b : List ℕ) (i new x : ℕ) (key : Row) → (x ≡ key
 unfolding carryRow
 row-of-neighbour b i new x key l m = rw (ne-eqb (rowAt b i .csd) (key .csd) (λ z. l (m ∙ z)))
 
-pub rule-reordered : (b b₁ b₂ : List ℕ) (i new : ℕ) (key z : Row) (r m : Rule) → b₂ ≡ carryRows (key .csd) (key .number) (key .object) (key .sequence) new b₁ 1024 → b₁ ≡ storeRule b i m → m ≡ record { csd = r .csd; number = r .number; object = r .object; sequence = new; sign = r .sign; criteria = r .criteria; first = r .first; last = r .last } → r ≡ ruleAt b i → i ≡ rulePlace b (key .csd) (Rules.Named (key .number) (key .object) (key .sequence)) (rowOf z) → z ≡ zeroRow → b₂ ≡ reorderedRule b (key .csd) (key .number) (key .object) (key .sequence) new
+pub rule-reordered : (b b₁ b₂ : List ℕ) (i new : ℕ) (key z : Row) (r m : Rule) → b₂ ≡ carryRows (key .csd) (key .number) (key .object) (key .sequence) new b₁ rowPlaces → b₁ ≡ storeRule b i m → m ≡ record { csd = r .csd; number = r .number; object = r .object; sequence = new; sign = r .sign; criteria = r .criteria; first = r .first; last = r .last } → r ≡ ruleAt b i → i ≡ rulePlace b (key .csd) (Rules.Named (key .number) (key .object) (key .sequence)) (rowOf z) → z ≡ zeroRow → b₂ ≡ reorderedRule b (key .csd) (key .number) (key .object) (key .sequence) new
 unfolding reorderedRule
 rule-reordered b b₁ b₂ i new key z r m e f g h k l =
     e
-    ∙ ap (λ x. carryRows (key .csd) (key .number) (key .object) (key .sequence) new x 1024)
+    ∙ ap (λ x. carryRows (key .csd) (key .number) (key .object) (key .sequence) new x rowPlaces)
     (f ∙ ap (storeRule b i) (g ∙ ap (ruleWith new) h)
     ∙ ap (λ j. storeRule b j (ruleWith new (ruleAt b j)))
     (k ∙ ap (λ w. rulePlace b (key .csd) (Rules.Named (key .number) (key .object) (key .sequence)) (rowOf w)) l))
-
--- ---- the records that a line's numbers give
-
-module _ (v : List ℕ) (c n o s g : ℕ) where
-  pub rule-made : (r : Rule) → r ≡ record { csd = c; number = n; object = o; sequence = s; sign = g; criteria = v ! 6; first = v ! 7; last = v ! 8 } → g ≡ byte v 5 → s ≡ byte v 4 → o ≡ byte v 3 → n ≡ byte v 2 → c ≡ byte v 0 → r ≡ ruleFrom v
-  unfolding ruleFrom
-  rule-made r e f h i j k = e ∙ rw (f, h, i, j, k)
-
-pub row-made : (v : List ℕ) (c n o s : ℕ) (r : Row) → r ≡ record { csd = c; number = n; object = o; sequence = s; values = v ! 5 ∷ v ! 6 ∷ v ! 7 ∷ v ! 8 ∷ v ! 9 ∷ v ! 10 ∷ v ! 11 ∷ v ! 12 ∷ v ! 13 ∷ v ! 14 ∷ [] } → s ≡ byte v 4 → o ≡ byte v 3 → n ≡ byte v 2 → c ≡ byte v 0 → r ≡ rowFrom v
-unfolding rowFrom
-row-made v c n o s r e f h i j = e ∙ rw (f, h, i, j)
 
 -- ---- the edits: a place is found, and a record is stored there
 
@@ -131,3 +122,48 @@ module _ (b b′ : List ℕ) (i : ℕ) where
   pub row-deleted-there : (w x : Row) → b′ ≡ storeRow b i x → x ≡ zeroRow → i ≡ rowPlace b (w .csd) Rows.Same (rowOf w) → b′ ≡ deletedRow b (w .csd) (rowOf w)
   unfolding deletedRow
   row-deleted-there w x e f g = e ∙ ap (storeRow b i) f ∙ ap (λ j. storeRow b j zeroRow) g
+
+-- ---- of a command: its record is stored as the depository's
+
+module _ (b b′ : List ℕ) (c : Command) where
+  pub edit-T : (t r : RestrictionType) → c .what ≡ What.AddType t → b′ ≡ storeType b (freeType b) r → r ≡ typeIn (c .csd) (typeOf t) → b′ ≡ editIn b (c .csd) (asked c)
+  unfolding editIn askedBy
+  edit-T t r e f g = rw e (f ∙ ap (storeType b (freeType b)) g)
+
+  pub edit-E : (n o last : ℕ) → c .what ≡ What.EndType n o last → b′ ≡ endedType b (c .csd) n o last → b′ ≡ editIn b (c .csd) (asked c)
+  unfolding editIn askedBy
+  edit-E n o last e f = rw e f
+
+  pub edit-R : (t r : Rule) → c .what ≡ What.AddRule t → b′ ≡ storeRule b (freeRule b) r → r ≡ ruleIn (c .csd) (ruleOf t) → b′ ≡ editIn b (c .csd) (asked c)
+  unfolding editIn askedBy
+  edit-R t r e f g = rw e (f ∙ ap (storeRule b (freeRule b)) g)
+
+  pub edit-A : (p r : Period) → c .what ≡ What.AddPeriod p → b′ ≡ storePeriod b (freePeriod b) r → r ≡ periodIn (c .csd) (periodOf p) → b′ ≡ editIn b (c .csd) (asked c)
+  unfolding editIn askedBy
+  edit-A p r e f g = rw e (f ∙ ap (storePeriod b (freePeriod b)) g)
+
+  pub edit-Z : (p r : Period) → c .what ≡ What.EndPeriod p → b′ ≡ endedPeriod b r → r ≡ periodIn (c .csd) (periodOf p) → b′ ≡ editIn b (c .csd) (asked c)
+  unfolding editIn askedBy periodOf
+  edit-Z p r e f g = rw e (f ∙ ap (endedPeriod b) g)
+
+  -- the row beside is w
+  module _ (w : Row) where
+    pub edit-O : (new : ℕ) → c .what ≡ What.Reorder new → b′ ≡ reorderedRule b (w .csd) (w .number) (w .object) (w .sequence) new → w ≡ rowIn (c .csd) (rowOf (c .row)) → b′ ≡ editIn b (c .csd) (asked c)
+    unfolding editIn askedBy rowOf
+    edit-O new e f g = rw e (f ∙ ap (λ z. reorderedRule b (z .csd) (z .number) (z .object) (z .sequence) new) g)
+
+    pub edit-D : c .what ≡ What.DeleteRule → b′ ≡ deletedRule b (w .csd) (w .number) (w .object) (w .sequence) → w ≡ rowIn (c .csd) (rowOf (c .row)) → b′ ≡ editIn b (c .csd) (asked c)
+    unfolding editIn askedBy rowOf
+    edit-D e f g = rw e (f ∙ ap (λ z. deletedRule b (z .csd) (z .number) (z .object) (z .sequence)) g)
+
+    pub edit-M : c .what ≡ What.AddRow → b′ ≡ storeRow b (freeRow b) w → w ≡ rowIn (c .csd) (rowOf (c .row)) → b′ ≡ editIn b (c .csd) (asked c)
+    unfolding editIn askedBy rowOf
+    edit-M e f g = rw e (f ∙ ap (storeRow b (freeRow b)) g)
+
+    pub edit-N : c .what ≡ What.DeleteRow → b′ ≡ deletedRow b (w .csd) (rowOf w) → w ≡ rowIn (c .csd) (rowOf (c .row)) → b′ ≡ editIn b (c .csd) (asked c)
+    unfolding editIn askedBy rowOf
+    edit-N e f g = rw e (f ∙ ap (λ z. deletedRow b (z .csd) (rowOf z)) g)
+
+pub edit-Q : (b : List ℕ) (c : Command) (q : Question) → c .what ≡ What.Ask q → b ≡ editIn b (c .csd) (asked c)
+unfolding editIn askedBy
+edit-Q b c q e = rw e

@@ -15,9 +15,9 @@ use Rattle.meaning.specs.Refusals.{conditions, refusal}
 use Rattle.meaning.specs.Edits.{edited}
 use Rattle.meaning.specs.Forms.{holds, day, sequenceForm}
 use Rattle.meaning.specs.Sound.{typeFits, ruleFits, rowFits, periodFits, fits}
-use Rattle.meaning.proofs.First.{none-hold}
+use Rattle.meaning.proofs.First.{command-not-refused}
 use Rattle.meaning.proofs.Good.{Good, good-of-sound, period-once}
-use Rattle.places.specs.Layout.{typeAt, ruleAt, rowAt, periodAt}
+use Rattle.places.specs.Layout.{typePlaces, rulePlaces, rowPlaces, periodPlaces, typeAt, ruleAt, rowAt, periodAt}
 use Rattle.records.specs.Said.{typeOf, ruleOf, rowOf, periodOf}
 use Rattle.records.specs.Asks.{typeMeets, ruleMeets, rowMeets, periodMeets}
 use Rattle.records.specs.declared.TypeAsk.the-variants as Types
@@ -42,29 +42,29 @@ module _ (b : List ℕ) (c : ℕ) (g : GoodBook b) (low : 1 ≤ c) (high : c ≤
 
   -- ---- T, R, M, A
 
-  leaves-type : (d : ℕ) (t : M.TypeRecord) → typeFits t ≡ true → length (typesOf c b) < 16 → Leaves b (editIn b c (M.addType d t)) c (edited (loneBook c b) (M.addType d t))
+  leaves-type : (d : ℕ) (t : M.TypeRecord) → typeFits t ≡ true → length (typesOf c b) < M.typeQuota → Leaves b (editIn b c (M.addType d t)) c (edited (loneBook c b) (M.addType d t))
   unfolding editIn storeType typeOf
   leaves-type d t f l =
       let e = free-type b g c low high l in
-      rw (lt-ltb (freeType b) 128 (e .0)) (type-added b (freeType b) (g .size) d (typeIn c t) (e .0) (e .1) low high (type-hold (typeIn c t) high f))
+      rw (lt-ltb (freeType b) typePlaces (e .0)) (type-added b (freeType b) (g .size) d (typeIn c t) (e .0) (e .1) low high (type-hold (typeIn c t) high f))
 
-  leaves-rule : (d : ℕ) (r : M.Rule) → ruleFits r ≡ true → length (rulesOf c b) < 64 → Leaves b (editIn b c (M.addRule d r)) c (edited (loneBook c b) (M.addRule d r))
+  leaves-rule : (d : ℕ) (r : M.Rule) → ruleFits r ≡ true → length (rulesOf c b) < M.ruleQuota → Leaves b (editIn b c (M.addRule d r)) c (edited (loneBook c b) (M.addRule d r))
   unfolding editIn storeRule ruleOf
   leaves-rule d r f l =
       let e = free-rule b noRow g c low high l in
-      rw (lt-ltb (freeRule b) 512 (e .0)) (rule-added b (freeRule b) (g .size) d (ruleIn c r) (e .0) (e .1) low high (rule-hold (ruleIn c r) high f))
+      rw (lt-ltb (freeRule b) rulePlaces (e .0)) (rule-added b (freeRule b) (g .size) d (ruleIn c r) (e .0) (e .1) low high (rule-hold (ruleIn c r) high f))
 
-  leaves-row : (w : M.Row) → rowFits w ≡ true → length (rowsOf c b) < 128 → Leaves b (editIn b c (M.addRow w)) c (edited (loneBook c b) (M.addRow w))
+  leaves-row : (w : M.Row) → rowFits w ≡ true → length (rowsOf c b) < M.rowQuota → Leaves b (editIn b c (M.addRow w)) c (edited (loneBook c b) (M.addRow w))
   unfolding editIn storeRow rowOf
   leaves-row w f l =
       let e = free-row b noRow g c low high l in
-      rw (lt-ltb (freeRow b) 1024 (e .0)) (row-added b (freeRow b) (g .size) (rowIn c w) (e .0) (e .1) low high (row-ten w f) (row-hold (rowIn c w) high (row-ten w f) f))
+      rw (lt-ltb (freeRow b) rowPlaces (e .0)) (row-added b (freeRow b) (g .size) (rowIn c w) (e .0) (e .1) low high (row-ten w f) (row-hold (rowIn c w) high (row-ten w f) f))
 
-  leaves-period : (d : ℕ) (p : M.Period) → periodFits p ≡ true → length (periodsOf c b) < 128 → Leaves b (editIn b c (M.addPeriod d p)) c (edited (loneBook c b) (M.addPeriod d p))
+  leaves-period : (d : ℕ) (p : M.Period) → periodFits p ≡ true → length (periodsOf c b) < M.periodQuota → Leaves b (editIn b c (M.addPeriod d p)) c (edited (loneBook c b) (M.addPeriod d p))
   unfolding editIn storePeriod periodOf
   leaves-period d p f l =
       let e = free-period b g c low high l in
-      rw (lt-ltb (freePeriod b) 1024 (e .0)) (period-added b (freePeriod b) (g .size) d (periodIn c p) (e .0) (e .1) low high (period-hold (periodIn c p) high f))
+      rw (lt-ltb (freePeriod b) periodPlaces (e .0)) (period-added b (freePeriod b) (g .size) d (periodIn c p) (e .0) (e .1) low high (period-hold (periodIn c p) high f))
 
   -- ---- D, N
 
@@ -72,40 +72,40 @@ module _ (b : List ℕ) (c : ℕ) (g : GoodBook b) (low : 1 ≤ c) (high : c ≤
   unfolding editIn deletedRule storeRule ruleMeets
   leaves-rule-out n o s h =
       let f = found-rule b c (Rules.Named n o s) noRow (has-true (ruleMeets (Rules.Named n o s) noRow) (rulesOf c b) h) in
-      rw (lt-ltb (rulePlace b c (Rules.Named n o s) noRow) 512 (f .0))
+      rw (lt-ltb (rulePlace b c (Rules.Named n o s) noRow) rulePlaces (f .0))
       (rule-deleted b (rulePlace b c (Rules.Named n o s) noRow) c (g .size) low n o s (f .0) (f .1) (f .2) (own .ruleOnce n o s))
 
   leaves-row-out : (w : M.Row) → has (isRow w) (rowsOf c b) ≡ true → Leaves b (editIn b c (M.deleteRow w)) c (edited (loneBook c b) (M.deleteRow w))
   unfolding editIn deletedRow storeRow rowMeets
   leaves-row-out w h =
       let f = found-row b c Rows.Same w (has-true (rowMeets Rows.Same w) (rowsOf c b) h) in
-      rw (lt-ltb (rowPlace b c Rows.Same w) 1024 (f .0))
+      rw (lt-ltb (rowPlace b c Rows.Same w) rowPlaces (f .0))
       (row-deleted b (rowPlace b c Rows.Same w) c (g .size) low w (f .0) (f .1) (f .2) (own .rowOnce w))
 
   -- ---- E, Z
 
-  type-fits : (k : ℕ) → k < 128 → typeAt b k .csd ≡ c → typeFits (typeOf (typeAt b k)) ≡ true
+  type-fits : (k : ℕ) → k < typePlaces → typeAt b k .csd ≡ c → typeFits (typeOf (typeAt b k)) ≡ true
   unfolding typesOf
-  type-fits = every-at (λ r. r .csd) typeOf c typeFits (typeAt b) 128 (own .typesFit)
+  type-fits = every-at (λ r. r .csd) typeOf c typeFits (typeAt b) typePlaces (own .typesFit)
 
-  rule-fits : (k : ℕ) → k < 512 → ruleAt b k .csd ≡ c → ruleFits (ruleOf (ruleAt b k)) ≡ true
+  rule-fits : (k : ℕ) → k < rulePlaces → ruleAt b k .csd ≡ c → ruleFits (ruleOf (ruleAt b k)) ≡ true
   unfolding rulesOf
-  rule-fits = every-at (λ r. r .csd) ruleOf c ruleFits (ruleAt b) 512 (own .rulesFit)
+  rule-fits = every-at (λ r. r .csd) ruleOf c ruleFits (ruleAt b) rulePlaces (own .rulesFit)
 
-  row-fits : (k : ℕ) → k < 1024 → rowAt b k .csd ≡ c → rowFits (rowOf (rowAt b k)) ≡ true
+  row-fits : (k : ℕ) → k < rowPlaces → rowAt b k .csd ≡ c → rowFits (rowOf (rowAt b k)) ≡ true
   unfolding rowsOf
-  row-fits = every-at (λ r. r .csd) rowOf c rowFits (rowAt b) 1024 (own .rowsFit)
+  row-fits = every-at (λ r. r .csd) rowOf c rowFits (rowAt b) rowPlaces (own .rowsFit)
 
-  period-fits : (k : ℕ) → k < 1024 → periodAt b k .csd ≡ c → periodFits (periodOf (periodAt b k)) ≡ true
+  period-fits : (k : ℕ) → k < periodPlaces → periodAt b k .csd ≡ c → periodFits (periodOf (periodAt b k)) ≡ true
   unfolding periodsOf
-  period-fits = every-at (λ r. r .csd) periodOf c periodFits (periodAt b) 1024 (own .periodsFit)
+  period-fits = every-at (λ r. r .csd) periodOf c periodFits (periodAt b) periodPlaces (own .periodsFit)
 
   leaves-type-end : (d n o last : ℕ) → holds day last ≡ true → has (isType n o) (typesOf c b) ≡ true → Leaves b (editIn b c (M.endType d n o last)) c (edited (loneBook c b) (M.endType d n o last))
   unfolding editIn endedType storeType typeMeets
   leaves-type-end d n o last e h =
       let i = typePlace b c (Types.Named n o) in
       let f = found-type b c (Types.Named n o) (has-true (typeMeets (Types.Named n o)) (typesOf c b) h) in
-      rw (lt-ltb i 128 (f .0))
+      rw (lt-ltb i typePlaces (f .0))
       (type-ended b i c (g .size) low high d n o last (f .0) (f .1) (f .2) (own .typeOnce n o)
       (type-ended-holds last (typeAt b i) (omega (arith, f .1)) (type-fits i (f .0) (f .1)) e))
 
@@ -114,7 +114,7 @@ module _ (b : List ℕ) (c : ℕ) (g : GoodBook b) (low : 1 ≤ c) (high : c ≤
   leaves-period-end d κ n o first last e h =
       let i = periodPlace b c (Periods.Named κ n o first) in
       let f = found-period b c (Periods.Named κ n o first) (has-true (periodMeets (Periods.Named κ n o first)) (periodsOf c b) h) in
-      rw (lt-ltb i 1024 (f .0))
+      rw (lt-ltb i periodPlaces (f .0))
       (period-ended b i c (g .size) low high d κ n o first last (f .0) (f .1) (f .2) (period-once (loneBook c b) own κ n o first)
       (period-ended-holds last (periodAt b i) (omega (arith, f .1)) (period-fits i (f .0) (f .1)) e))
 
@@ -125,7 +125,7 @@ module _ (b : List ℕ) (c : ℕ) (g : GoodBook b) (low : 1 ≤ c) (high : c ≤
   leaves-reorder n o s new e h =
       let i = rulePlace b c (Rules.Named n o s) noRow in
       let f = found-rule b c (Rules.Named n o s) noRow (has-true (ruleMeets (Rules.Named n o s) noRow) (rulesOf c b) h) in
-      rw (lt-ltb i 512 (f .0))
+      rw (lt-ltb i rulePlaces (f .0))
       (reordered b i c n o s new (g .size) low high (f .0) (f .1) (f .2) (own .ruleOnce n o s)
       (rule-with-holds new (ruleAt b i) (omega (arith, f .1)) (rule-fits i (f .0) (f .1)) e)
       (λ k l z. row-with-holds new (rowAt b k) (omega (arith, z)) (ten-values c n o s new b k) (row-fits k l z) e))
@@ -144,32 +144,24 @@ module _ (b : List ℕ) (c : ℕ) (g : GoodBook b) (low : 1 ≤ c) (high : c ≤
 
   -- An edit that is not refused leaves, of its depository, the meaning's edited book, and of every other depository the equal book.
   pub edit-leaves : (k : M.Command) → fits k ≡ true → refusal (loneBook c b) k ≡ 0 → Leaves b (editIn b c k) c (edited (loneBook c b) k)
-  unfolding refusal fits every
+  unfolding conditions fits
   edit-leaves (M.addType d t) f e =
-      let n = none-hold (conditions (loneBook c b) (M.addType d t)) refl e in
-      leaves-type d t f (leb-false 16 (length (typesOf c b)) (n .1 .1 .0))
+      leaves-type d t f (leb-false M.typeQuota (length (typesOf c b)) (command-not-refused (loneBook c b) (M.addType d t) e 10))
   edit-leaves (M.endType d n o last) f e =
-      let h = none-hold (conditions (loneBook c b) (M.endType d n o last)) refl e in
-      leaves-type-end d n o last f (not-false (has (isType n o) (typesOf c b)) (h .1 .0))
+      leaves-type-end d n o last f (not-false (has (isType n o) (typesOf c b)) (command-not-refused (loneBook c b) (M.endType d n o last) e 7))
   edit-leaves (M.addRule d r) f e =
-      let n = none-hold (conditions (loneBook c b) (M.addRule d r)) refl e in
-      leaves-rule d r f (leb-false 64 (length (rulesOf c b)) (n .1 .1 .1 .0))
+      leaves-rule d r f (leb-false M.ruleQuota (length (rulesOf c b)) (command-not-refused (loneBook c b) (M.addRule d r) e 10))
   edit-leaves (M.reorder n o s new) f e =
-      let h = none-hold (conditions (loneBook c b) (M.reorder n o s new)) refl e in
-      leaves-reorder n o s new f (not-false (has (isRule n o s) (rulesOf c b)) (h .0))
+      leaves-reorder n o s new f (not-false (has (isRule n o s) (rulesOf c b)) (command-not-refused (loneBook c b) (M.reorder n o s new) e 7))
   edit-leaves (M.deleteRule n o s) f e =
-      let h = none-hold (conditions (loneBook c b) (M.deleteRule n o s)) refl e in
-      leaves-rule-out n o s (not-false (has (isRule n o s) (rulesOf c b)) (h .0))
+      leaves-rule-out n o s (not-false (has (isRule n o s) (rulesOf c b)) (command-not-refused (loneBook c b) (M.deleteRule n o s) e 7))
   edit-leaves (M.addRow w) f e =
-      let n = none-hold (conditions (loneBook c b) (M.addRow w)) refl e in
-      leaves-row w f (leb-false 128 (length (rowsOf c b)) (n .1 .1 .1 .0))
+      leaves-row w f (leb-false M.rowQuota (length (rowsOf c b)) (command-not-refused (loneBook c b) (M.addRow w) e 10))
   edit-leaves (M.deleteRow w) f e =
-      let h = none-hold (conditions (loneBook c b) (M.deleteRow w)) refl e in
-      leaves-row-out w (not-false (has (isRow w) (rowsOf c b)) (h .0))
+      leaves-row-out w (not-false (has (isRow w) (rowsOf c b)) (command-not-refused (loneBook c b) (M.deleteRow w) e 7))
   edit-leaves (M.addPeriod d p) f e =
-      let n = none-hold (conditions (loneBook c b) (M.addPeriod d p)) refl e in
-      leaves-period d p f (leb-false 128 (length (periodsOf c b)) (n .1 .1 .0))
+      leaves-period d p f (leb-false M.periodQuota (length (periodsOf c b)) (command-not-refused (loneBook c b) (M.addPeriod d p) e 10))
   edit-leaves (M.endPeriod d κ n o first last) f e =
-      let h = none-hold (conditions (loneBook c b) (M.endPeriod d κ n o first last)) refl e in
-      leaves-period-end d κ n o first last f (not-false (has (isPeriod κ n o first) (periodsOf c b)) (h .1 .0))
+      leaves-period-end d κ n o first last f
+      (not-false (has (isPeriod κ n o first) (periodsOf c b)) (command-not-refused (loneBook c b) (M.endPeriod d κ n o first last) e 7))
   edit-leaves (M.ask q) f e = leaves-nothing q

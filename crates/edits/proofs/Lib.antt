@@ -4,7 +4,4 @@ pub mod Widths
 pub mod Leave
 pub mod Placed
 pub mod Stay
-pub mod Refuse
 pub mod Does
-pub mod ByLetter
-pub mod AskedRight

@@ -13,6 +13,7 @@ use Rattle.meaning.specs.Edits.{edited}
 use Rattle.meaning.specs.Sound.{fits, soundLone}
 use Rattle.meaning.proofs.Good.{good-of-sound, sound-of-good, sound-same}
 use Rattle.meaning.proofs.Kept.{good-edited}
+use Rattle.places.specs.Layout.{bookSize}
 use Rattle.book.specs.Lone.{loneBook}
 use Rattle.book.specs.Sound.{sound}
 use Rattle.book.proofs.Facts.{facts-of-sound}
@@ -31,7 +32,7 @@ module _ (b b′ : List ℕ) (c : ℕ) (m : M.Book) (e : sound b ≡ true) (l : 
   unfolding sound
   leaves-sound s =
       rw (
-        l .size ∙ eqb-true (length b) 51200 (search ands),
+        l .size ∙ eqb-true (length b) bookSize (search ands),
         l .places (search ands),
         all-put (λ a. soundLone (loneBook (a + 1) b′)) 8
             (λ a h.

@@ -5,7 +5,7 @@ use mathlib.Core.Bool.{cond}
 use mathlib.Core.List.{List}
 use lib.Dec.{ltb}
 use Rattle.meaning.specs.Records as M
-use Rattle.places.specs.Layout.{typeAt, putType, ruleAt, putRule, zeroRule, putRow, zeroRow, periodAt, putPeriod}
+use Rattle.places.specs.Layout.{typePlaces, typeAt, putType, rulePlaces, ruleAt, putRule, zeroRule, rowPlaces, putRow, zeroRow, periodPlaces, periodAt, putPeriod}
 use Rattle.places.specs.declared.RestrictionType.{RestrictionType}
 use Rattle.places.specs.declared.Rule.{Rule}
 use Rattle.places.specs.declared.Row.{Row}
@@ -70,16 +70,16 @@ freePeriod b = periodPlace b 0 Periods.Any
 -- ---- stores: nothing where there is no place
 
 unfoldable pub storeType : List ℕ → ℕ → RestrictionType → List ℕ
-storeType b i r = cond (ltb i 128) (putType b i r) b
+storeType b i r = cond (ltb i typePlaces) (putType b i r) b
 
 unfoldable pub storeRule : List ℕ → ℕ → Rule → List ℕ
-storeRule b i r = cond (ltb i 512) (putRule b i r) b
+storeRule b i r = cond (ltb i rulePlaces) (putRule b i r) b
 
 unfoldable pub storeRow : List ℕ → ℕ → Row → List ℕ
-storeRow b i r = cond (ltb i 1024) (putRow b i r) b
+storeRow b i r = cond (ltb i rowPlaces) (putRow b i r) b
 
 unfoldable pub storePeriod : List ℕ → ℕ → Period → List ℕ
-storePeriod b i r = cond (ltb i 1024) (putPeriod b i r) b
+storePeriod b i r = cond (ltb i periodPlaces) (putPeriod b i r) b
 
 -- ---- the edits
 
@@ -103,7 +103,7 @@ deletedRow b c w = storeRow b (rowPlace b c Rows.Same w) zeroRow
 unfoldable pub reorderedRule : List ℕ → ℕ → ℕ → ℕ → ℕ → ℕ → List ℕ
 reorderedRule b c n o s new =
     let i = rulePlace b c (Rules.Named n o s) noRow in
-    carryRows c n o s new (storeRule b i (ruleWith new (ruleAt b i))) 1024
+    carryRows c n o s new (storeRule b i (ruleWith new (ruleAt b i))) rowPlaces
 
 unfoldable pub editIn : List ℕ → ℕ → M.Command → List ℕ
 editIn b c (M.addType day t) = storeType b (freeType b) (typeIn c t)

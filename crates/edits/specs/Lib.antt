@@ -1,4 +1,3 @@
 pub mod Leaves
 pub mod Moves
 pub mod Edit
-pub mod Asked

@@ -4,7 +4,7 @@ use mathlib.Core.Bool.{Bool, cond, _&&_}
 use mathlib.Core.List.{List}
 use lib.Dec.{eqb}
 use Rattle.meaning.specs.Keys.{ofRule}
-use Rattle.places.specs.Layout.{ruleAt, putRule, rowAt, putRow}
+use Rattle.places.specs.Layout.{ruleAt, putRule, rowPlaces, rowAt, putRow}
 use Rattle.places.specs.declared.Rule.{Rule}
 use Rattle.places.specs.declared.Row.{Row}
 use Rattle.records.specs.Said.{rowOf}
@@ -34,4 +34,4 @@ module _ (c n o s new : ℕ) where
 
   -- the rule at place i, then all rows
   unfoldable pub reorderIn : List ℕ → ℕ → List ℕ
-  reorderIn b i = carryRows (putRule b i (ruleWith new (ruleAt b i))) 1024
+  reorderIn b i = carryRows (putRule b i (ruleWith new (ruleAt b i))) rowPlaces

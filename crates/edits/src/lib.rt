@@ -1,26 +1,16 @@
-// The nine edits on the lent book: refusals 6 to 10, and what an accepted edit leaves.
+// The nine edits on the lent book: what an accepted edit leaves.
 ghost use mathlib.Core.Path.{_≡_};
-ghost use mathlib.Core.Bool.{cond};
-ghost use Prim.Native.Nat.{_%_};
-ghost use lib.Dec.{leb};
-ghost use lib.ListN.{length};
-ghost use Rattle.tables.specs.Count.{has};
-ghost use Rattle.meaning.specs.Records.{addType, endType, addRule, reorder, deleteRule, addRow, deleteRow, addPeriod, endPeriod};
-ghost use Rattle.meaning.specs.Refusals.{refusal};
 ghost use Rattle.records.specs.Said.{typeOf, ruleOf, rowOf, periodOf};
-ghost use Rattle.records.specs.Asks.{typeMeets, ruleMeets, rowMeets, periodMeets};
-ghost use Rattle.book.specs.Lone.{typesOf, rulesOf, rowsOf, periodsOf, loneBook};
+ghost use Rattle.places.specs.Layout.{rowPlaces};
+ghost use Rattle.commands.specs.Asked.{asked};
 ghost use Rattle.edits.specs.Moves.{carryRow, carryRows};
-ghost use Rattle.edits.specs.Edit.{freeType, freeRule, freeRow, freePeriod, storeType, storeRule, storeRow, storePeriod, endedType, endedPeriod, deletedRule, deletedRow, reorderedRule, editIn};
-ghost use Rattle.edits.specs.Asked.{typeFrom, ruleFrom, rowFrom, periodFrom, byte, commandIn};
-use book::count_periods;
-use book::count_rows;
-use book::count_rules;
-use book::count_types;
+ghost use Rattle.edits.specs.Edit.{typeIn, ruleIn, rowIn, periodIn, freeType, freeRule, freeRow, freePeriod, storeType, storeRule, storeRow, storePeriod, endedType, endedPeriod, deletedRule, deletedRow, reorderedRule, editIn};
 use book::find_period;
 use book::find_row;
 use book::find_rule;
 use book::find_type;
+use commands::Command;
+use commands::What;
 use places::Period;
 use places::RestrictionType;
 use places::Row;
@@ -34,159 +24,11 @@ use records::PeriodAsk;
 use records::RowAsk;
 use records::RuleAsk;
 use records::TypeAsk;
-use records::and;
-use records::no;
-use records::or;
 use records::row_meets;
 use stores::put_period;
 use stores::put_row;
 use stores::put_rule;
 use stores::put_type;
-
-// ---- Refusals: the conditions are computed, and the first that holds is given.
-
-fn when(test: bool, number: u8, rest: u8) -> u8
-    ensures { λ r. ⌜ r ≡ cond test number rest ⌝ }
-{
-    if test { number } else { rest }
-}
-
-// ---- What the depository's lists have, and whether they are full.
-
-fn has_type(b: &[u8], a: u8, q: TypeAsk) -> bool
-    ensures { λ r. ⌜ r ≡ has (typeMeets q) (typesOf a (now (b .entry))) ⌝ }
-{
-    0 < count_types(b, a, q)
-}
-
-fn has_rule(b: &[u8], a: u8, q: RuleAsk, w: Row) -> bool
-    ensures { λ r. ⌜ r ≡ has (ruleMeets q (rowOf w)) (rulesOf a (now (b .entry))) ⌝ }
-{
-    0 < count_rules(b, a, q, w)
-}
-
-fn has_row(b: &[u8], a: u8, q: RowAsk, w: Row) -> bool
-    ensures { λ r. ⌜ r ≡ has (rowMeets q (rowOf w)) (rowsOf a (now (b .entry))) ⌝ }
-{
-    0 < count_rows(b, a, q, w)
-}
-
-fn has_period(b: &[u8], a: u8, q: PeriodAsk) -> bool
-    ensures { λ r. ⌜ r ≡ has (periodMeets q) (periodsOf a (now (b .entry))) ⌝ }
-{
-    0 < count_periods(b, a, q)
-}
-
-fn full_types(b: &[u8], a: u8) -> bool
-    ensures { λ r. ⌜ r ≡ leb 16 (length (typesOf a (now (b .entry)))) ⌝ }
-{
-    RestrictionType::QUOTA <= count_types(b, a, TypeAsk::Any)
-}
-
-fn full_rules(b: &[u8], a: u8) -> bool
-    ensures { λ r. ⌜ r ≡ leb 64 (length (rulesOf a (now (b .entry)))) ⌝ }
-{
-    Rule::QUOTA <= count_rules(b, a, RuleAsk::Any, Row::zero())
-}
-
-fn full_rows(b: &[u8], a: u8) -> bool
-    ensures { λ r. ⌜ r ≡ leb 128 (length (rowsOf a (now (b .entry)))) ⌝ }
-{
-    Row::QUOTA <= count_rows(b, a, RowAsk::Any, Row::zero())
-}
-
-fn full_periods(b: &[u8], a: u8) -> bool
-    ensures { λ r. ⌜ r ≡ leb 128 (length (periodsOf a (now (b .entry)))) ⌝ }
-{
-    Period::QUOTA <= count_periods(b, a, PeriodAsk::Any)
-}
-
-// ---- Refusals 6 to 10 of each letter, in order.
-
-fn refuse_add_type(b: &[u8], day: u32, r: RestrictionType) -> u8
-    ensures { λ x. ⌜ x ≡ refusal (loneBook (r .csd) (now (b .entry))) (addType day (typeOf r)) ⌝ }
-{
-    let held = has_type(b, r.csd, TypeAsk::Named(r.number, r.object));
-    let full = full_types(b, r.csd);
-    when(r.first <= day, 6, when(held, 8, when(full, 10, 0)))
-}
-
-fn refuse_end_type(b: &[u8], csd: u8, day: u32, number: u8, object: u8, last: u32) -> u8
-    ensures { λ x. ⌜ x ≡ refusal (loneBook csd (now (b .entry))) (endType day number object last) ⌝ }
-{
-    let held = has_type(b, csd, TypeAsk::Named(number, object));
-    let outside = has_type(b, csd, TypeAsk::Outside(number, object, last));
-    when(last < day, 6, when(no(held), 7, when(outside, 9, 0)))
-}
-
-fn refuse_add_rule(b: &[u8], day: u32, r: Rule) -> u8
-    ensures { λ x. ⌜ x ≡ refusal (loneBook (r .csd) (now (b .entry))) (addRule day (ruleOf r)) ⌝ }
-{
-    let typed = has_type(b, r.csd, TypeAsk::Named(r.number, r.object));
-    let named = RuleAsk::Named(r.number, r.object, r.sequence);
-    let held = has_rule(b, r.csd, named, Row::zero());
-    let full = full_rules(b, r.csd);
-    let late = when(held, 8, when(full, 10, 0));
-    when(r.first <= day, 6, when(no(typed), 7, late))
-}
-
-fn refuse_reorder(b: &[u8], csd: u8, number: u8, object: u8, sequence: u8, new: u8) -> u8
-    ensures { λ x. ⌜ x ≡ refusal (loneBook csd (now (b .entry))) (reorder number object sequence new) ⌝ }
-{
-    let zero = Row::zero();
-    let named = RuleAsk::Named(number, object, sequence);
-    let held = has_rule(b, csd, named, zero);
-    let taken = has_rule(b, csd, RuleAsk::Named(number, object, new), zero);
-    when(no(held), 7, when(taken, 8, 0))
-}
-
-// The rule named is the row's.
-fn refuse_delete_rule(b: &[u8], w: Row) -> u8
-    ensures { λ x. ⌜ x ≡ refusal (loneBook (w .csd) (now (b .entry))) (deleteRule (w .number) (w .object) (w .sequence)) ⌝ }
-{
-    let named = RuleAsk::Named(w.number, w.object, w.sequence);
-    let held = has_rule(b, w.csd, named, w);
-    let rows = has_row(b, w.csd, RowAsk::OfRule, w);
-    when(no(held), 7, when(rows, 9, 0))
-}
-
-fn refuse_add_row(b: &[u8], w: Row) -> u8
-    ensures { λ x. ⌜ x ≡ refusal (loneBook (w .csd) (now (b .entry))) (addRow (rowOf w)) ⌝ }
-{
-    let named = RuleAsk::Named(w.number, w.object, w.sequence);
-    let ruled = has_rule(b, w.csd, named, w);
-    let held = has_row(b, w.csd, RowAsk::Same, w);
-    let other = has_rule(b, w.csd, RuleAsk::Other, w);
-    let full = full_rows(b, w.csd);
-    let late = when(other, 9, when(full, 10, 0));
-    when(no(ruled), 7, when(held, 8, late))
-}
-
-fn refuse_delete_row(b: &[u8], w: Row) -> u8
-    ensures { λ x. ⌜ x ≡ refusal (loneBook (w .csd) (now (b .entry))) (deleteRow (rowOf w)) ⌝ }
-{
-    let held = has_row(b, w.csd, RowAsk::Same, w);
-    when(no(held), 7, 0)
-}
-
-fn refuse_add_period(b: &[u8], day: u32, p: Period) -> u8
-    ensures { λ x. ⌜ x ≡ refusal (loneBook (p .csd) (now (b .entry))) (addPeriod day (periodOf p)) ⌝ }
-{
-    let clash = has_period(b, p.csd, PeriodAsk::Clash(p));
-    let full = full_periods(b, p.csd);
-    when(p.first <= day, 6, when(clash, 8, when(full, 10, 0)))
-}
-
-// The period named is p's, whose last day is the new one.
-fn refuse_end_period(b: &[u8], day: u32, p: Period) -> u8
-    ensures { λ x. ⌜ x ≡ refusal (loneBook (p .csd) (now (b .entry))) (endPeriod day (p .kind) (p .number) (p .code) (p .first) (p .last)) ⌝ }
-{
-    let named = PeriodAsk::Named(p.kind, p.number, p.code, p.first);
-    let held = has_period(b, p.csd, named);
-    let beyond = PeriodAsk::Outside(p.kind, p.number, p.code, p.first, p.last);
-    let outside = has_period(b, p.csd, beyond);
-    when(p.last < day, 6, when(no(held), 7, when(outside, 9, 0)))
-}
 
 // ---- Stores. A place that is not found may be the next table's first place, so it is tested.
 
@@ -308,7 +150,7 @@ fn carry_row(b: &mut [u8], i: u16, key: Row, new: u8)
 }
 
 fn carry_rows(b: &mut [u8], key: Row, new: u8)
-    ensures { λ x. ⌜ now (b .exit) ≡ carryRows (key .csd) (key .number) (key .object) (key .sequence) new (now (b .entry)) 1024 ⌝ }
+    ensures { λ x. ⌜ now (b .exit) ≡ carryRows (key .csd) (key .number) (key .object) (key .sequence) new (now (b .entry)) rowPlaces ⌝ }
 {
     for i in 0..Row::PLACES {
         carry_row(b, i, key, new);
@@ -336,94 +178,62 @@ fn reorder(b: &mut [u8], key: Row, new: u8)
     carry_rows(b, key, new);
 }
 
-// ---- The records that a line's numbers give.
+// ---- A record as the depository's, whatever its own csd.
 
-// The lowest byte of a number: for a line that is read, the number itself.
-fn low(x: u32) -> u8
-    ensures { λ r. ⌜ r ≡ x % 256 ⌝ }
+fn own_type(csd: u8, r: RestrictionType) -> RestrictionType
+    ensures { λ x. ⌜ x ≡ typeIn csd (typeOf r) ⌝ }
 {
-    (x % 256) as u8
+    RestrictionType::new(csd, r.number, r.object, r.processing, r.first, r.last)
 }
 
-fn type_from(v: [u32; 16]) -> RestrictionType
-    ensures { λ r. ⌜ r ≡ typeFrom v ⌝ }
-{
-    RestrictionType::new(low(v[0]), low(v[2]), low(v[3]), low(v[4]), v[5], v[6])
-}
-
-fn rule_from(v: [u32; 16]) -> Rule
-    ensures { λ r. ⌜ r ≡ ruleFrom v ⌝ }
+fn own_rule(csd: u8, r: Rule) -> Rule
+    ensures { λ x. ⌜ x ≡ ruleIn csd (ruleOf r) ⌝ }
 {
     Rule::new(
-        low(v[0]),
-        low(v[2]),
-        low(v[3]),
-        low(v[4]),
-        low(v[5]),
-        v[6],
-        v[7],
-        v[8],
+        csd,
+        r.number,
+        r.object,
+        r.sequence,
+        r.sign,
+        r.criteria,
+        r.first,
+        r.last,
     )
 }
 
-fn row_from(v: [u32; 16]) -> Row
-    ensures { λ r. ⌜ r ≡ rowFrom v ⌝ }
+fn own_row(csd: u8, w: Row) -> Row
+    ensures { λ x. ⌜ x ≡ rowIn csd (rowOf w) ⌝ }
 {
-    let values = [
-        v[5],
-        v[6],
-        v[7],
-        v[8],
-        v[9],
-        v[10],
-        v[11],
-        v[12],
-        v[13],
-        v[14],
-    ];
-    Row::new(low(v[0]), low(v[2]), low(v[3]), low(v[4]), values)
+    let values = w.values;
+    Row::new(csd, w.number, w.object, w.sequence, values)
 }
 
-fn period_from(v: [u32; 16]) -> Period
-    ensures { λ r. ⌜ r ≡ periodFrom v ⌝ }
+fn own_period(csd: u8, p: Period) -> Period
+    ensures { λ x. ⌜ x ≡ periodIn csd (periodOf p) ⌝ }
 {
-    Period::new(low(v[0]), low(v[2]), v[3], v[4], v[5], v[6])
+    Period::new(csd, p.kind, p.number, p.code, p.first, p.last)
 }
 
-// ---- By letter: T, E, R, O, D, M, N, A, Z are 0 to 8.
+// ---- Of a command.
 
-// Refusals 6 to 10; 0 where none holds.
-pub fn refusal(b: &[u8], letter: u8, v: [u32; 16]) -> u8
-    ensures { λ r. ⌜ r ≡ refusal (loneBook (byte v 0) (now (b .entry))) (commandIn letter v) ⌝ }
+// What an accepted command does to the bytes: a question nothing.
+pub fn edit(b: &mut [u8], c: Command)
+    ensures { λ r. ⌜ now (b .exit) ≡ editIn (now (b .entry)) (c .csd) (asked c) ⌝ }
 {
-    match letter {
-        0 => refuse_add_type(b, v[1], type_from(v)),
-        1 => refuse_end_type(b, low(v[0]), v[1], low(v[2]), low(v[3]), v[4]),
-        2 => refuse_add_rule(b, v[1], rule_from(v)),
-        3 => refuse_reorder(b, low(v[0]), low(v[2]), low(v[3]), low(v[4]), low(v[5])),
-        4 => refuse_delete_rule(b, row_from(v)),
-        5 => refuse_add_row(b, row_from(v)),
-        6 => refuse_delete_row(b, row_from(v)),
-        7 => refuse_add_period(b, v[1], period_from(v)),
-        8 => refuse_end_period(b, v[1], period_from(v)),
-        _ => 0,
-    }
-}
-
-// What an accepted edit does to the bytes.
-pub fn edit(b: &mut [u8], letter: u8, v: [u32; 16])
-    ensures { λ r. ⌜ now (b .exit) ≡ editIn (now (b .entry)) (byte v 0) (commandIn letter v) ⌝ }
-{
-    match letter {
-        0 => add_type(b, type_from(v)),
-        1 => end_type(b, low(v[0]), low(v[2]), low(v[3]), v[4]),
-        2 => add_rule(b, rule_from(v)),
-        3 => reorder(b, row_from(v), low(v[5])),
-        4 => delete_rule(b, row_from(v)),
-        5 => add_row(b, row_from(v)),
-        6 => delete_row(b, row_from(v)),
-        7 => add_period(b, period_from(v)),
-        8 => end_period(b, period_from(v)),
-        _ => {}
+    let csd = c.csd;
+    let row = c.row;
+    let w = own_row(csd, row);
+    let what = c.what;
+    match what {
+        What::AddType(t) => add_type(b, own_type(csd, t)),
+        What::EndType(number, object, last) => end_type(b, csd, number, object, last),
+        What::AddRule(r) => add_rule(b, own_rule(csd, r)),
+        What::Reorder(new) => reorder(b, w, new),
+        What::DeleteRule => delete_rule(b, w),
+        What::AddRow => add_row(b, w),
+        What::DeleteRow => delete_row(b, w),
+        What::AddPeriod(p) => add_period(b, own_period(csd, p)),
+        What::EndPeriod(p) => end_period(b, own_period(csd, p)),
+        What::Ask(_) => {}
     }
 }

@@ -10,7 +10,7 @@ use Rattle.meaning.specs.declared.Verdict.{Verdict}
 use Rattle.places.specs.Layout.{rowPlaces}
 use Rattle.matching.specs.MatchedRows.{ruleKeys, codesBorne, rowsMatched, RowsMarked}
 use Rattle.judge.specs.Stages.{rulesMatched, signsMatched, typesNamed, verdict, judgedBy}
-use Rattle.matching.specs.declared.Question.{Question}
+use Rattle.commands.specs.declared.Question.{Question}
 
 by-rows : (b : List ℕ) (q : Question) (codes : ℕ → Bool) (rows : List ℕ) → RowsMarked ruleKeys b q codes rows
     → marked rows ≡ rowsMatched b q codes

@@ -11,7 +11,7 @@ use Rattle.places.specs.declared.RestrictionType.{RestrictionType}
 use Rattle.places.specs.declared.Rule.{Rule}
 use Rattle.matching.specs.MatchedRows.{ruleKey}
 use Rattle.judge.specs.Stages.{typeKey, ruleMatches, ruleOfType, firstRule, typeApplies, decided, verdict}
-use Rattle.matching.specs.declared.Question.{Question}
+use Rattle.commands.specs.declared.Question.{Question}
 
 pub rule-by : (rows : ℕ → Bool) (q : Question) (r : Rule) (k : ℕ) (d m y x : Bool)
     → x ≡ (eqb (r .object) (q .object) && y) → y ≡ (d && m) → m ≡ rows k → k ≡ ruleKey (r .number) (r .sequence)

@@ -21,9 +21,10 @@ use Rattle.meaning.specs.Sound.{soundLone}
 use Rattle.places.specs.Layout.{typePlaces, rulePlaces, typeAt, ruleAt}
 use Rattle.records.specs.Said.{typeOf, ruleOf}
 use Rattle.book.specs.Lone.{typesOf, rulesOf, loneBook}
-use Rattle.matching.specs.MatchedRows.{questionOf, ruleKey, codesBorne, rowsMatched}
+use Rattle.commands.specs.Asked.{questionOf}
+use Rattle.matching.specs.MatchedRows.{ruleKey, codesBorne, rowsMatched}
 use Rattle.judge.specs.Stages.{signKey, typeKey, signedKey, typedKey, signKeys, typeKeys, sequences, ruleMatches, ruleOfType, rulesMatched, signsMatched, typeApplies, typesNamed, firstRule, decided, verdict, rulesOn, signsOn, judgedBy}
-use Rattle.matching.specs.declared.Question.{Question}
+use Rattle.commands.specs.declared.Question.{Question}
 use Rattle.matching.proofs.Ranged.{Ranged, ranged}
 use Rattle.matching.proofs.MarksRight.{rows}
 

@@ -21,7 +21,7 @@ use Rattle.places.specs.declared.Rule.{Rule}
 use Rattle.rules.specs.Search.{noRule}
 use Rattle.rules.specs.declared.ListedRule.{ListedRule}
 use Rattle.matching.specs.MatchedRows.{ruleKey, codesBorne, rowsMatched}
-use Rattle.matching.specs.declared.Question.{Question}
+use Rattle.commands.specs.declared.Question.{Question}
 
 -- ---- the keys of the tables: the last part of each is below 3
 

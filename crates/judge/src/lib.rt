@@ -14,7 +14,7 @@ use basics::pick_byte;
 use marks::is_marked;
 use marks::look;
 use marks::store;
-use matching::Question;
+use commands::Question;
 use matching::RULE_KEYS;
 use matching::covers;
 use matching::mark_rules;

@@ -20,8 +20,9 @@ use Rattle.meaning.specs.Judging.{covers, meetsAll, hasCode}
 use Rattle.places.specs.Layout.{rowPlaces, periodPlaces, rowAt, periodAt}
 use Rattle.records.specs.Said.{rowOf, periodOf}
 use Rattle.book.specs.Lone.{rowsOf, periodsOf, loneBook}
-use Rattle.matching.specs.MatchedRows.{questionOf, codeKey, ruleKey, periodKey, rowKey, codeKeys, ruleKeys, sought, borneBy, codesBorne, tests, rowMatches, rowsMatched}
-use Rattle.matching.specs.declared.Question.{Question}
+use Rattle.commands.specs.Asked.{questionOf}
+use Rattle.matching.specs.MatchedRows.{codeKey, ruleKey, periodKey, rowKey, codeKeys, ruleKeys, sought, borneBy, codesBorne, tests, rowMatches, rowsMatched}
+use Rattle.commands.specs.declared.Question.{Question}
 use Rattle.matching.proofs.Ranged.{Ranged}
 use Rattle.matching.proofs.RowValues.{row-met}
 

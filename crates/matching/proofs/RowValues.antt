@@ -15,7 +15,7 @@ use Rattle.tables.proofs.Counts.{cases, cases-eq, all-more, all-at}
 use Rattle.meaning.specs.Judging.{meetsAll}
 use Rattle.marks.specs.Flags.{flagged}
 use Rattle.matching.specs.MatchedRows.{codesBorne, testAt, valueMet, valuesMet, RowsMarked}
-use Rattle.matching.specs.declared.Question.{Question}
+use Rattle.commands.specs.declared.Question.{Question}
 
 -- A criterion, by the arm of its number.
 pub arm : (fs : List (ℕ → Bool)) (i k v : ℕ) (r : Bool) → i ≡ k → r ≡ testAt fs k v → r ≡ testAt fs i v

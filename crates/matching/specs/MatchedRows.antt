@@ -8,29 +8,13 @@ use lib.Dec.{eqb}
 use lib.ListN.{getD}
 use Rattle.tables.specs.Count.{allBelow}
 use Rattle.tables.specs.Keyed.{keys, afterPlace, Keyed}
-use Rattle.meaning.specs.Records as M
 use Rattle.meaning.specs.Records.{party, account, security}
 use Rattle.meaning.specs.Judging.{covers}
 use Rattle.places.specs.Layout.{rowPlaces, periodPlaces, rowAt, periodAt}
 use Rattle.places.specs.declared.Row.{Row}
 use Rattle.places.specs.declared.Period.{Period}
 use Rattle.marks.specs.Flags.{afterFlag}
-use Rattle.matching.specs.declared.Question.{Question}
-
--- what a question asks, as the written meaning's
-abbrev pub questionOf : Question → M.Question
-questionOf q = record {
-  day = q .day;
-  object = q .object;
-  partyType = q .role;
-  movement = q .movement;
-  payment = q .payment;
-  transaction = q .transaction;
-  currency = q .currency;
-  party = q .party;
-  account = q .account;
-  security = q .security;
-}
+use Rattle.commands.specs.declared.Question.{Question}
 
 -- ---- the keys of the tables: the last part is below 4 and 100
 

@@ -10,6 +10,7 @@ use basics::and;
 use basics::no;
 use basics::or;
 use basics::pick;
+use commands::Question;
 use marks::clear;
 use marks::is_flagged;
 use marks::store;
@@ -44,21 +45,6 @@ const ACCOUNT_CODE: u8 = 7;
 const SECURITY_CODE: u8 = 8;
 
 const CURRENCY: u8 = 9;
-
-// What is asked. Role is the instructing party's type; an empty field is 0.
-pub struct Question {
-    pub csd: u8,
-    pub day: u32,
-    pub object: u8,
-    pub role: u32,
-    pub movement: u32,
-    pub payment: u32,
-    pub transaction: u32,
-    pub currency: u32,
-    pub party: u32,
-    pub account: u32,
-    pub security: u32,
-}
 
 // First and last day both count.
 pub fn covers(first: u32, last: u32, day: u32) -> bool

@@ -1,7 +1,8 @@
 -- The lone book's answers to a list of lines (document 01, 'One depository alone'). Assumes nothing.
 use Prim.Native.Nat.{ℕ, zero, suc, _+_, _-_}
-use mathlib.Core.Bool.{Bool, cond}
+use mathlib.Core.Bool.{Bool, true, false, cond, not, _||_}
 use mathlib.Core.List.{List, [], _∷_}
+use lib.Dec.{eqb}
 use lib.ListN.{getD}
 use Rattle.tables.specs.Count.{keep}
 use Rattle.meaning.specs.Text.{same}
@@ -62,6 +63,29 @@ unfoldable pub afterReading : Book → Reading → Step
 unfolding taken commandOf
 afterReading b (refused n) = record { answer = Refused n; book = b }
 afterReading b (asks l v) = taken b (commandOf l v)
+
+-- whether a command is a question
+abbrev pub isQuestion : Command → Bool
+isQuestion (addType day t) = false
+isQuestion (endType day type object last) = false
+isQuestion (addRule day r) = false
+isQuestion (reorder type object sequence new) = false
+isQuestion (deleteRule type object sequence) = false
+isQuestion (addRow w) = false
+isQuestion (deleteRow w) = false
+isQuestion (addPeriod day p) = false
+isQuestion (endPeriod day kind number code first last) = false
+isQuestion (ask q) = true
+
+-- whether what is read leaves the lists as they are: it is refused, or it is a question
+unfoldable pub keepsRead : Book → Reading → Bool
+unfolding refusal commandOf
+keepsRead b (refused n) = true
+keepsRead b (asks l v) = not (eqb (refusal b (commandOf l v)) 0) || isQuestion (commandOf l v)
+
+unfoldable pub keeps : Book → List ℕ → Bool
+unfolding keepsRead reading
+keeps b line = keepsRead b (reading line)
 
 -- each line is tested for refusals 2 to 10 in order
 unfoldable pub step : Book → List ℕ → Step

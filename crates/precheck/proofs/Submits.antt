@@ -1,75 +1,108 @@
--- What each return of `take` and `submit` shows.
-use Prim.Native.Nat.{ℕ, zero, suc, _%_, _≤_, _<_}
+-- What each return of `reply`, `take`, `answer` and `submit` shows.
+use Prim.Native.Nat.{ℕ, zero, suc, _%_, _≤_}
 use mathlib.Core.Path.{_≡_, refl, ap, sym, _∙_}
-use mathlib.Core.Bool.{Bool, true, false, not, false≢true}
-use mathlib.Core.List.{List, [], _∷_, map}
+use mathlib.Core.Bool.{Bool, true, false, not, _||_, or-true, false≢true}
+use mathlib.Core.List.{List, []}
 use native.Mathlib.Omega.{arith}
 use lib.Dec.{eqb}
-use lib.ListN.{length, getD}
-use borrow.Author.Tests.{eq-eqb, ne-eqb, leb-true, not-true, not-false}
-use Rattle.tables.proofs.Counts.{cases, cases-eq, ands}
-use Rattle.meaning.specs.Fields.{within}
-use Rattle.meaning.specs.Forms.{Letter, letterT, letterE, letterR, letterO, letterD, letterM, letterN, letterA, letterZ, letterQ, letterAt, formsOf, holds, day}
+use borrow.Author.Tests.{eq-eqb, ne-eqb, not-true, not-false}
+use Rattle.tables.proofs.Counts.{cases, cases-eq}
+use Rattle.meaning.specs.Forms.{Letter}
 use Rattle.meaning.specs.Records as M
 use Rattle.meaning.specs.Records.{_!_, commandOf}
-use Rattle.meaning.specs.Reading.{refused, asks, reading}
+use Rattle.meaning.specs.Reading.{Reading, refused, asks, wrong, numbersRead, unlessWrong, reading}
 use Rattle.meaning.specs.Refusals.{refusal}
 use Rattle.meaning.specs.Edits.{edited}
-use Rattle.meaning.specs.Judging.{judged}
-use Rattle.meaning.specs.Lone.{reply, unless, taken, afterReading, step, names, depository}
+use Rattle.meaning.specs.Lone.{reply, unless, taken, afterReading, step, isQuestion, keepsRead, keeps, names, depository}
 use Rattle.meaning.specs.SameBook.{SameBook}
-use Rattle.meaning.specs.Sound.{fits}
+use Rattle.meaning.specs.Sound.{fits, soundLone}
 use Rattle.meaning.specs.declared.Answer.{Answer}
 use Rattle.meaning.specs.declared.Answer.the-variants.{Taken, Refused, Judged}
-use Rattle.meaning.proofs.Ranges.{reading-fits}
-use Rattle.meaning.proofs.Names.{reading-names, reading-depository, names-depository}
+use Rattle.meaning.proofs.Shapes.{Ranged}
+use Rattle.meaning.proofs.Ranges.{reading-ranged, reading-fits}
+use Rattle.meaning.proofs.Names.{reading-csd, reading-names, reading-depository, names-depository}
+use Rattle.commands.specs.Asked.{questionOf, asked, whatOf, coded, letterFor, commandFrom}
+use Rattle.commands.specs.declared.Question.{Question}
+use Rattle.commands.specs.declared.What.the-variants as What
+use Rattle.commands.specs.declared.Command.{Command}
+use Rattle.commands.proofs.Decoded.{letter-for}
+use Rattle.commands.proofs.Narrow.{Narrow, low-same, asked-coded, narrow-read}
 use Rattle.book.specs.Lone.{loneBook}
 use Rattle.book.specs.Sound.{sound}
-use Rattle.edits.specs.Asked.{byte, commandBy, orQuestion, commandIn}
 use Rattle.edits.specs.Edit.{editIn}
-use Rattle.edits.proofs.AskedRight.{asked-right}
 use Rattle.edits.proofs.Stay.{sound-lone, edit-left, edit-sound}
-use Rattle.matching.specs.MatchedRows.{questionOf}
 use Rattle.judge.specs.Stages.{judgedBy}
-use Rattle.matching.specs.declared.Question.{Question}
 use Rattle.judge.proofs.VerdictRight.{judged-right}
 use Rattle.line.specs.declared.reading.Line.{Line}
 use Rattle.line.specs.Line.{lineOf}
-use mathlib.Core.Option.{some, none}
-use Rattle.line.specs.Table.{letterList, letter, placeOf}
-use Rattle.line.proofs.Readings.{place-letter}
-use Rattle.line.proofs.Padding.{padded-at}
 use Rattle.line.proofs.LineCallers as Read
-use Rattle.precheck.specs.Promise.{answerIn, loneAfter, Submitted}
-use Rattle.precheck.specs.Taking.{questionFrom, refusalOf, answerOf, bytesAfter, Took, answerRead, bytesRead, answerBy, bytesBy, Answers}
+use Rattle.precheck.specs.Promise.{answerIn, loneAfter, leftAsFound, Submitted}
+use Rattle.precheck.specs.Taking.{refusalOf, replyTo, answerOf, bytesAfter, Took, commandIn, answerRead, bytesRead, answerBy, bytesBy, Answers}
 
--- ---- the returns of take
+-- ---- the returns of reply and take
 
-module _ (b : List ℕ) (l : Line) where
-  pub took-question : (q : Question) (v : _) (x : Answer) → l .letter ≡ 9 → x ≡ Judged v → v ≡ judgedBy b q → q ≡ questionFrom (l .values) → Took b l x b
-  unfolding answerOf bytesAfter
-  took-question q v x e f g h =
-      record { answered = rw (eq-eqb (l .letter) 9 e) (f ∙ ap Judged (g ∙ ap (judgedBy b) h)); bytes = rw (eq-eqb (l .letter) 9 e) }
+pub replied-question : (b : List ℕ) (c : Command) (q : Question) (v : _) → c .what ≡ What.Ask q → v ≡ judgedBy b q → Judged v ≡ replyTo b (c .what)
+unfolding replyTo
+replied-question b c q v e f = rw (e, f)
 
-  pub took-refusal : (n : ℕ) (x : Answer) → (l .letter ≡ 9 → ⊥) → (n ≡ 0 → ⊥) → x ≡ Refused n → n ≡ refusal (loneBook (byte (l .values) 0) b) (commandIn (l .letter) (l .values)) → Took b l x b
+module _ (b : List ℕ) (c : Command) where
+  pub took-refusal : (n : ℕ) (x : Answer) → (n ≡ 0 → ⊥) → x ≡ Refused n → n ≡ refusal (loneBook (c .csd) b) (asked c) → Took b c x b
   unfolding answerOf bytesAfter refusalOf
-  took-refusal n x e f g h =
-      let z = ne-eqb (l .letter) 9 e in
-      let r : eqb (refusal (loneBook (byte (l .values) 0) b) (commandIn (l .letter) (l .values))) 0 ≡ false = ap (λ k. eqb k 0) (sym h) ∙ ne-eqb n 0 f in
-      record { answered = rw (z, r) (g ∙ ap Refused h); bytes = rw (z, r) }
+  took-refusal n x f g h =
+      let r : eqb (refusal (loneBook (c .csd) b) (asked c)) 0 ≡ false = ap (λ k. eqb k 0) (sym h) ∙ ne-eqb n 0 f in
+      record { answered = rw r (g ∙ ap Refused h); bytes = rw r }
 
-  pub took-edit : (b′ : List ℕ) (n : ℕ) (x : Answer) → (l .letter ≡ 9 → ⊥) → n ≡ 0 → x ≡ Taken → n ≡ refusal (loneBook (byte (l .values) 0) b) (commandIn (l .letter) (l .values)) → b′ ≡ editIn b (byte (l .values) 0) (commandIn (l .letter) (l .values)) → Took b l x b′
+  pub took-edit : (b′ : List ℕ) (n : ℕ) (x : Answer) → n ≡ 0 → b′ ≡ editIn b (c .csd) (asked c) → x ≡ replyTo b (c .what) → n ≡ refusal (loneBook (c .csd) b) (asked c)
+      → Took b c x b′
   unfolding answerOf bytesAfter refusalOf
-  took-edit b′ n x e f g h k =
-      let z = ne-eqb (l .letter) 9 e in
-      let r : eqb (refusal (loneBook (byte (l .values) 0) b) (commandIn (l .letter) (l .values))) 0 ≡ true = eq-eqb _ 0 (sym h ∙ f) in
-      record { answered = rw (z, r) g; bytes = rw (z, r) k }
+  took-edit b′ n x f g h k =
+      let r : eqb (refusal (loneBook (c .csd) b) (asked c)) 0 ≡ true = eq-eqb _ 0 (sym k ∙ f) in
+      record { answered = rw r h; bytes = rw r g }
 
-pub question-made : (v : List ℕ) (c o : ℕ) → o ≡ byte v 2 → c ≡ byte v 0 → record { csd = c; day = v ! 1; object = o; role = v ! 3; movement = v ! 4; payment = v ! 5; transaction = v ! 6; currency = v ! 7; party = v ! 8; account = v ! 9; security = v ! 10 } ≡ questionFrom v
-unfolding questionFrom
-question-made v c o e f = rw (e, f)
+-- ---- what is replied is the meaning's
 
--- ---- the returns of submit
+reply-coded : (b : List ℕ) (c d : ℕ) (k : M.Command) → Narrow d k → soundLone (loneBook c b) ≡ true → replyTo b (whatOf c k) ≡ reply (loneBook c b) k
+unfolding replyTo whatOf reply
+reply-coded b c d (M.addType e t) n s = refl
+reply-coded b c d (M.endType e type object last) n s = refl
+reply-coded b c d (M.addRule e r) n s = refl
+reply-coded b c d (M.reorder type object sequence new) n s = refl
+reply-coded b c d (M.deleteRule type object sequence) n s = refl
+reply-coded b c d (M.addRow w) n s = refl
+reply-coded b c d (M.deleteRow w) n s = refl
+reply-coded b c d (M.addPeriod e p) n s = refl
+reply-coded b c d (M.endPeriod e kind number code first last) n s = refl
+reply-coded b c d (M.ask q) n s = rw (low-same (q .object) n) (ap Judged (judged-right b _ s))
+
+-- a question's edit leaves every byte
+question-left : (b : List ℕ) (c : ℕ) (k : M.Command) → isQuestion k ≡ true → editIn b c k ≡ b
+unfolding editIn
+question-left b c (M.addType e t) q = absurd (false≢true q)
+question-left b c (M.endType e type object last) q = absurd (false≢true q)
+question-left b c (M.addRule e r) q = absurd (false≢true q)
+question-left b c (M.reorder type object sequence new) q = absurd (false≢true q)
+question-left b c (M.deleteRule type object sequence) q = absurd (false≢true q)
+question-left b c (M.addRow w) q = absurd (false≢true q)
+question-left b c (M.deleteRow w) q = absurd (false≢true q)
+question-left b c (M.addPeriod e p) q = absurd (false≢true q)
+question-left b c (M.endPeriod e kind number code first last) q = absurd (false≢true q)
+question-left b c (M.ask r) q = refl
+
+-- any other command is replied K
+reply-edit : (m : M.Book) (k : M.Command) → isQuestion k ≡ false → reply m k ≡ Taken
+unfolding reply
+reply-edit m (M.addType e t) q = refl
+reply-edit m (M.endType e type object last) q = refl
+reply-edit m (M.addRule e r) q = refl
+reply-edit m (M.reorder type object sequence new) q = refl
+reply-edit m (M.deleteRule type object sequence) q = refl
+reply-edit m (M.addRow w) q = refl
+reply-edit m (M.deleteRow w) q = refl
+reply-edit m (M.addPeriod e p) q = refl
+reply-edit m (M.endPeriod e kind number code first last) q = refl
+reply-edit m (M.ask r) q = absurd (false≢true (sym q))
+
+-- ---- the promise, by what is read
 
 same-book : (m : M.Book) → SameBook m m
 same-book m = record { types = λ p. refl; rules = λ p. refl; rows = λ p. refl; periods = λ p. refl }
@@ -86,187 +119,133 @@ submitted-unsound b line t x e f g =
     }
 
 -- a line that is refused 2 to 5 leaves every lone book
-step-refused : (m : M.Book) (line : List ℕ) (n : ℕ) → reading line ≡ refused n → step m line ≡ record { answer = Refused n; book = m }
-unfolding step afterReading
-step-refused m line n e = rw e
-
-pub submitted-unread : (b line : List ℕ) (t : Bool) (l : Line) (x : Answer) → t ≡ sound b → not t ≡ false → l ≡ lineOf (reading line) → (l .refusal ≡ 0 → ⊥) → x ≡ Refused (l .refusal) → Submitted b line x b
-unfolding answerIn loneAfter
-submitted-unread b line t l x e f g h i =
-    let s : sound b ≡ true = sym e ∙ not-false t f in
-    let w = Read.was-refused line g h in
-    let u : (m : M.Book) → step m line ≡ record { answer = Refused (l .refusal); book = m } = λ m. step-refused m line (l .refusal) (w .whole) in
+submitted-unread : (b line : List ℕ) (n : ℕ) (x : Answer) → sound b ≡ true → reading line ≡ refused n → x ≡ Refused n → Submitted b line x b
+unfolding answerIn loneAfter step afterReading
+submitted-unread b line n x s e f =
     record {
-      answered = rw (s, u (loneBook (depository line) b)) i;
+      answered = rw (s, e) f;
       kept = λ z. refl;
       stays = λ z. z;
       records = λ z c low high.
           cases (names c line)
-          (λ y. rw (y, u (loneBook c b)) (same-book (loneBook c b)))
+          (λ y. rw (y, e) (same-book (loneBook c b)))
           (λ y. rw y (same-book (loneBook c b)));
     }
 
--- a line that is read: by what the meaning makes of its command
-module _ (b line : List ℕ) (c : ℕ) (k : M.Command) (s : sound b ≡ true) (low : 1 ≤ c) (high : c ≤ 8) (dep : depository line ≡ c) (nam : names c line ≡ true) (stepped : (m : M.Book) → step m line ≡ taken m k) where
-  other : (a : ℕ) → 1 ≤ a → a ≤ 8 → (c ≡ a → ⊥) → names a line ≡ false
-  other a l h d = cases (names a line) (λ e. absurd (d (sym dep ∙ names-depository a line l h e))) (λ e. e)
+-- a line that is read
+module _ (b line : List ℕ) (l : Letter) (v : List ℕ) (s : sound b ≡ true) (e : reading line ≡ asks l v) where
+  abbrev c : ℕ
+  c = v ! 0
 
-  submitted-by : (x : Answer) (b′ : List ℕ) → x ≡ taken (loneBook c b) k .answer → ((x ≡ Taken → ⊥) → b′ ≡ b) → sound b′ ≡ true → SameBook (loneBook c b′) (taken (loneBook c b) k .book) → ((a : ℕ) → 1 ≤ a → (c ≡ a → ⊥) → loneBook a b′ ≡ loneBook a b) → Submitted b line x b′
+  abbrev k : M.Command
+  k = commandOf l v
+
+  abbrev m : M.Book
+  m = loneBook c b
+
+  stepped : (z : M.Book) → step z line ≡ taken z k
+  unfolding step afterReading
+  stepped z = rw e
+
+  low : 1 ≤ c
+  low = reading-csd line l v e .0
+
+  high : c ≤ 8
+  high = reading-csd line l v e .1
+
+  dep : depository line ≡ c
+  dep = reading-depository line l v e
+
+  other : (a : ℕ) → 1 ≤ a → a ≤ 8 → (c ≡ a → ⊥) → names a line ≡ false
+  other a u h d = cases (names a line) (λ y. absurd (d (sym dep ∙ names-depository a line u h y))) (λ y. y)
+
+  submitted-by : (x : Answer) (b′ : List ℕ) → x ≡ taken m k .answer → (leftAsFound b line ≡ true → b′ ≡ b) → sound b′ ≡ true → SameBook (loneBook c b′) (taken m k .book)
+      → ((a : ℕ) → 1 ≤ a → (c ≡ a → ⊥) → loneBook a b′ ≡ loneBook a b) → Submitted b line x b′
   unfolding answerIn loneAfter
-  submitted-by x b′ e f g own others =
+  submitted-by x b′ f t g own others =
       record {
-        answered = rw (s, dep, stepped (loneBook c b)) e;
-        kept = f;
+        answered = rw (s, dep, stepped m) f;
+        kept = t;
         stays = λ z. g;
-        records = λ z a l h.
+        records = λ z a u h.
             cases-eq c a
-            (λ y. rw (← y, nam, stepped (loneBook c b)) own)
-            (λ y. rw (other a l h y, others a l y) (same-book (loneBook a b)));
+            (λ y. rw (← y, reading-names line l v e, stepped m) own)
+            (λ y. rw (other a u h y, others a u y) (same-book (loneBook a b)));
       }
 
   -- refused 6 to 10
-  unless-refused : (n : ℕ) (m : M.Book) → (n ≡ 0 → ⊥) → unless n m k ≡ record { answer = Refused n; book = m }
+  unless-refused : (n : ℕ) (z : M.Book) → (n ≡ 0 → ⊥) → unless n z k ≡ record { answer = Refused n; book = z }
   unfolding unless
-  unless-refused zero m h = absurd (h refl)
-  unless-refused (suc n) m h = refl
+  unless-refused zero z h = absurd (h refl)
+  unless-refused (suc n) z h = refl
 
-  submitted-refused : (x : Answer) → (refusal (loneBook c b) k ≡ 0 → ⊥) → x ≡ Refused (refusal (loneBook c b) k) → Submitted b line x b
+  submitted-refused : (x : Answer) → (refusal m k ≡ 0 → ⊥) → x ≡ Refused (refusal m k) → Submitted b line x b
   unfolding taken
-  submitted-refused x h e =
-      let u = unless-refused (refusal (loneBook c b) k) (loneBook c b) h in
-      submitted-by x b (e ∙ ap (λ z. z .answer) (sym u)) (λ z. refl) s (rw u (same-book (loneBook c b))) (λ a l d. refl)
+  submitted-refused x h f =
+      let u = unless-refused (refusal m k) m h in
+      submitted-by x b (f ∙ ap (λ z. z .answer) (sym u)) (λ z. refl) s (rw u (same-book m)) (λ a y d. refl)
 
-  -- taken
-  submitted-taken : (x : Answer) (b′ : List ℕ) → fits k ≡ true → refusal (loneBook c b) k ≡ 0 → reply (loneBook c b) k ≡ Taken → x ≡ Taken → b′ ≡ editIn b c k → Submitted b line x b′
+  -- a question that is not refused leaves every byte
+  left-question : refusal m k ≡ 0 → leftAsFound b line ≡ true → isQuestion k ≡ true
+  unfolding leftAsFound keeps keepsRead
+  left-question r h = rw (s, dep, e, eq-eqb (refusal m k) 0 r) at h
+
+  submitted-taken : (x : Answer) (b′ : List ℕ) → refusal m k ≡ 0 → x ≡ reply m k → b′ ≡ editIn b c k → Submitted b line x b′
   unfolding taken unless
-  submitted-taken x b′ f r t e i =
-      let l = edit-left b c s low high k f r in
+  submitted-taken x b′ r f i =
+      let fit = reading-fits line l v e in
+      let left = edit-left b c s low high k fit r in
       rw i
-      (submitted-by x (editIn b c k) (rw r (e ∙ sym t)) (λ z. absurd (z e)) (edit-sound b c s low high k f r) (rw r (l .own)) (l .others))
+      (submitted-by x (editIn b c k) (rw r f) (λ z. question-left b c k (left-question r z)) (edit-sound b c s low high k fit r)
+      (rw r (left .own)) (left .others))
+
+  -- THE PROMISE for a line that is read, from what `take` does.
+  submitted-read : (x : Answer) (b′ : List ℕ) → Took b (coded c (v ! 1) k) x b′ → Submitted b line x b′
+  unfolding answerOf bytesAfter refusalOf coded
+  submitted-read x b′ t =
+      let n = narrow-read l v (reading-ranged line l v e) in
+      let a : asked (coded c (v ! 1) k) ≡ k = asked-coded c (v ! 1) k n in
+      cases-eq (refusal m k) 0
+      (λ r.
+      let y : eqb (refusal m (asked (coded c (v ! 1) k))) 0 ≡ true = rw a (eq-eqb (refusal m k) 0 r) in
+      submitted-taken x b′ r ((rw y at (t .answered)) ∙ reply-coded b c (v ! 1) k n (sound-lone b s c low high))
+      ((rw y at (t .bytes)) ∙ ap (editIn b c) a))
+      (λ r.
+      let y : eqb (refusal m (asked (coded c (v ! 1) k))) 0 ≡ false = rw a (ne-eqb (refusal m k) 0 r) in
+      rw (rw y at (t .bytes)) (submitted-refused x r ((rw y at (t .answered)) ∙ ap (λ z. Refused (refusal m z)) a)))
 
 -- ---- from what the code read to the meaning's command
 
-some-at : (l : List Letter) (n : ℕ) → orQuestion (getD (map some l) n none) ≡ getD l n letterQ
-some-at [] n = refl
-some-at (x ∷ l) zero = refl
-some-at (x ∷ l) (suc n) = some-at l n
-
-same-letter : (n : ℕ) → orQuestion (letterAt n) ≡ letter n
-same-letter n = some-at letterList n
-
--- an edit is answered K
-edit-reply : (l : Letter) (v : List ℕ) (m : M.Book) → (l ≡ letterQ → ⊥) → reply m (commandOf l v) ≡ Taken
-unfolding reply commandOf
-edit-reply letterT v m h = refl
-edit-reply letterE v m h = refl
-edit-reply letterR v m h = refl
-edit-reply letterO v m h = refl
-edit-reply letterD v m h = refl
-edit-reply letterM v m h = refl
-edit-reply letterN v m h = refl
-edit-reply letterA v m h = refl
-edit-reply letterZ v m h = refl
-edit-reply letterQ v m h = absurd (h refl)
-
-step-asks : (m : M.Book) (line : List ℕ) (l : Letter) (v : List ℕ) → reading line ≡ asks l v → step m line ≡ taken m (commandOf l v)
-unfolding step afterReading
-step-asks m line l v e = rw e
-
--- a question leaves the book
-taken-question : (m : M.Book) (q : M.Question) → taken m (M.ask q) ≡ record { answer = Judged (judged m q); book = m }
-unfolding taken refusal unless reply edited
-taken-question m q = refl
-
-question-right : (v : List ℕ) → v ! 2 % 256 ≡ v ! 2 → M.ask (questionOf (questionFrom v)) ≡ commandOf letterQ v
-unfolding questionFrom commandOf
-question-right v e = rw e
-
--- the numbers of a Q line, whose object is 1 or 2
-object-small : (n : ℕ) (v : List ℕ) → n ≡ 9 → ((k : ℕ) → k < length (formsOf (letter n)) → holds (getD (formsOf (letter n)) k day) (v ! k) ≡ true) → v ! 2 % 256 ≡ v ! 2
-unfolding formsOf holds
-object-small n v e h =
-    let g : within 1 2 (v ! 2) ≡ true = (rw e at h) 2 (omega arith) in
-    omega (arith, leb-true (v ! 2) 2 (search ands))
-
-question-asked : (n : ℕ) (v : List ℕ) → n ≡ 9 → v ! 2 % 256 ≡ v ! 2 → commandIn n v ≡ M.ask (questionOf (questionFrom v))
-unfolding commandIn
-question-asked n v e h = rw e (sym (question-right v h))
-
--- a place other than 9 is no question's
-not-question : (n : ℕ) → n < 10 → (n ≡ 9 → ⊥) → letter n ≡ letterQ → ⊥
-not-question n l h e = h (sym (place-letter n l) ∙ ap placeOf e)
-
-module _ (b line : List ℕ) (l : Line) (s : sound b ≡ true) (a : Read.Asked line l) where
+module _ (line : List ℕ) (l : Line) (a : Read.Asked line l) where
   abbrev L : Letter
-  L = letter (l .letter)
+  L = a .letter
 
-  abbrev v : List ℕ
-  v = l .values
+  abbrev ns : List ℕ
+  ns = a .numbers
 
-  csd-same : byte v 0 ≡ v ! 0
-  csd-same = omega (arith, a .csd-high)
+  -- the code's command is the meaning's, coded
+  same-command : commandIn l ≡ coded (ns ! 0) (ns ! 1) (commandOf L ns)
+  same-command =
+      let first : l .values ! 0 % 256 ≡ ns ! 0 = omega (arith, a .at 0 (omega arith), a .csd-high) in
+      let byte : letterFor (l .letter) ≡ L = ap letterFor (a .byte) ∙ letter-for L in
+      rw (first, a .at 1 (omega arith), byte, a .command)
 
-  low : 1 ≤ byte v 0
-  low = omega (arith, csd-same, a .csd-low)
+  -- and asks the same
+  same-asked : asked (commandIn l) ≡ commandOf L ns
+  same-asked =
+      ap asked same-command ∙ asked-coded (ns ! 0) (ns ! 1) (commandOf L ns) (narrow-read L ns (a .ranged))
 
-  high : byte v 0 ≤ 8
-  high = omega (arith, csd-same, a .csd-high)
+  wrong-reading : wrong (asked (commandIn l)) ≡ true → reading line ≡ refused 5
+  unfolding reading unlessWrong
+  wrong-reading w = rw (a .whole, ap wrong (sym same-asked) ∙ w)
 
-  first : byte v 0 ≡ a .numbers ! 0
-  first = csd-same ∙ ap (λ z. z ! 0) (a .values) ∙ padded-at 16 (a .numbers) 0 (omega arith)
+  right-reading : wrong (asked (commandIn l)) ≡ false → reading line ≡ asks L ns
+  unfolding reading unlessWrong
+  right-reading w = rw (a .whole, ap wrong (sym same-asked) ∙ w)
 
-  dep : depository line ≡ byte v 0
-  dep = reading-depository line L (a .numbers) (a .whole) ∙ sym first
-
-  nam : names (byte v 0) line ≡ true
-  nam = ap (λ z. names z line) first ∙ reading-names line L (a .numbers) (a .whole)
-
-  command : commandIn (l .letter) v ≡ commandOf L (a .numbers)
-  unfolding commandIn
-  command = ap (λ z. commandBy z v) (same-letter (l .letter)) ∙ asked-right L v (a .held) ∙ a .command
-
-  stepped : (m : M.Book) → step m line ≡ taken m (commandIn (l .letter) v)
-  stepped m = step-asks m line L (a .numbers) (a .whole) ∙ ap (taken m) (sym command)
-
-  fit : fits (commandIn (l .letter) v) ≡ true
-  fit = ap fits command ∙ reading-fits line L (a .numbers) (a .whole)
-
-  -- Q
-  judged-question : (x : Answer) → l .letter ≡ 9 → x ≡ Judged (judgedBy b (questionFrom v)) → Submitted b line x b
-  unfolding questionFrom
-  judged-question x e f =
-      let m = loneBook (byte v 0) b in
-      let k = question-asked (l .letter) v e (object-small (l .letter) v e (a .held)) in
-      let t = ap (taken m) k ∙ taken-question m (questionOf (questionFrom v)) in
-      let r = judged-right b (questionFrom v) (sound-lone b s (byte v 0) low high) in
-      submitted-by b line (byte v 0) (commandIn (l .letter) v) s low high dep nam stepped x b
-      (f ∙ ap Judged r ∙ ap (λ z. z .answer) (sym t)) (λ z. refl) s (rw t (same-book m)) (λ c y z. refl)
-
-  -- THE PROMISE for a line that is read, from what `take` does.
-  pub submitted-read : (x : Answer) (b′ : List ℕ) → Took b l x b′ → Submitted b line x b′
-  unfolding answerOf bytesAfter refusalOf
-  submitted-read x b′ t =
-      let m = loneBook (byte v 0) b in
-      let k = commandIn (l .letter) v in
-      cases-eq (l .letter) 9
-      (λ e.
-      let z = eq-eqb (l .letter) 9 e in
-      rw (rw z at (t .bytes)) (judged-question x e (rw z at (t .answered))))
-      (λ d.
-      let z = ne-eqb (l .letter) 9 d in
-      cases-eq (refusal m k) 0
-      (λ e.
-      let y = eq-eqb (refusal m k) 0 e in
-      submitted-taken b line (byte v 0) k s low high dep nam stepped x b′ fit e
-      (ap (reply m) command ∙ edit-reply L (a .numbers) m (not-question (l .letter) (a .known) d))
-      (rw (z, y) at (t .answered)) (rw (z, y) at (t .bytes)))
-      (λ e.
-      let y = ne-eqb (refusal m k) 0 e in
-      rw (rw (z, y) at (t .bytes))
-      (submitted-refused b line (byte v 0) k s low high dep nam stepped x e (rw (z, y) at (t .answered)))))
-
-pub submitted : (b b′ line : List ℕ) (t : Bool) (l : Line) (x : Answer) → t ≡ sound b → not t ≡ false → l ≡ lineOf (reading line) → l .refusal ≡ 0 → Took b l x b′ → Submitted b line x b′
-submitted b b′ line t l x e f g h i = submitted-read b line l (sym e ∙ not-false t f) (Read.asked line g h) x b′ i
+unread : (line : List ℕ) (n : ℕ) → numbersRead line ≡ refused n → reading line ≡ refused n
+unfolding reading unlessWrong
+unread line n e = rw e
 
 -- ---- the returns of answer
 
@@ -277,19 +256,47 @@ module _ (b line : List ℕ) (t : Bool) (x : Answer) where
       let n = not-true t f in
       record { answered = rw n g; bytes = rw n; promise = λ e. submitted-unsound b line t x e f g }
 
-  pub answers-unread : (l : Line) → not t ≡ false → l ≡ lineOf (reading line) → (l .refusal ≡ 0 → ⊥) → x ≡ Refused (l .refusal) → Answers t b line x b
-  unfolding answerBy bytesBy answerRead bytesRead
-  answers-unread l f g h i =
-      let n = not-false t f in
-      let z = ne-eqb (l .refusal) 0 h in
-      record { answered = rw (n, ← g, z) i; bytes = rw (n, ← g, z); promise = λ e. submitted-unread b line t l x e f g h i }
+  module _ (l : Line) (f : not t ≡ false) (g : l ≡ lineOf (numbersRead line)) where
+    pub answers-unread : (l .refusal ≡ 0 → ⊥) → x ≡ Refused (l .refusal) → Answers t b line x b
+    unfolding answerBy bytesBy answerRead bytesRead
+    answers-unread h i =
+        let n = not-false t f in
+        let z = ne-eqb (l .refusal) 0 h in
+        record {
+          answered = rw (n, ← g, z) i;
+          bytes = rw (n, ← g, z);
+          promise = λ e. submitted-unread b line (l .refusal) x (sym e ∙ n) (unread line (l .refusal) (Read.was-refused line g h .whole)) i;
+        }
 
-  pub answers-read : (b′ : List ℕ) (l : Line) → not t ≡ false → l ≡ lineOf (reading line) → l .refusal ≡ 0 → Took b l x b′ → Answers t b line x b′
-  unfolding answerBy bytesBy answerRead bytesRead
-  answers-read b′ l f g h i =
-      let n = not-false t f in
-      let z = eq-eqb (l .refusal) 0 h in
-      record { answered = rw (n, ← g, z) (i .answered); bytes = rw (n, ← g, z) (i .bytes); promise = λ e. submitted b b′ line t l x e f g h i }
+    module _ (h : l .refusal ≡ 0) (c : Command) (w : Bool) (i : c ≡ commandIn l) (j : w ≡ wrong (asked c)) where
+      said : wrong (asked (commandIn l)) ≡ w
+      said = ap (λ z. wrong (asked z)) (sym i) ∙ sym j
+
+      pub answers-wrong : w ≡ true → x ≡ Refused 5 → Answers t b line x b
+      unfolding answerBy bytesBy answerRead bytesRead
+      answers-wrong y u =
+          let n = not-false t f in
+          let z = eq-eqb (l .refusal) 0 h in
+          record {
+            answered = rw (n, ← g, z, said ∙ y) u;
+            bytes = rw (n, ← g, z, said ∙ y);
+            promise = λ e. submitted-unread b line 5 x (sym e ∙ n) (wrong-reading line l (Read.asked line g h) (said ∙ y)) u;
+          }
+
+      pub answers-read : (b′ : List ℕ) → w ≡ false → Took b c x b′ → Answers t b line x b′
+      unfolding answerBy bytesBy answerRead bytesRead
+      answers-read b′ y u =
+          let n = not-false t f in
+          let z = eq-eqb (l .refusal) 0 h in
+          let a = Read.asked line g h in
+          let k : Took b (commandIn l) x b′ = rw (← i) u in
+          record {
+            answered = rw (n, ← g, z, said ∙ y) (k .answered);
+            bytes = rw (n, ← g, z, said ∙ y) (k .bytes);
+            promise = λ e.
+                submitted-read b line (a .letter) (a .numbers) (sym e ∙ n) (right-reading line l a (said ∙ y)) x b′
+                (rw (same-command line l a) at k);
+          }
 
 -- ---- the return of submit
 
@@ -302,13 +309,45 @@ module _ (b b′ line : List ℕ) (t : Bool) (x : Answer) where
 
 -- ---- what is answered to any line over any bytes keeps the promise
 
-pub keeps-promise : (b line : List ℕ) → Submitted b line (answerBy (sound b) b line) (bytesBy (sound b) b line)
+answers-any : (b line : List ℕ) → sound b ≡ true → Answers true b line (answerBy true b line) (bytesBy true b line)
 unfolding answerBy bytesBy answerRead bytesRead
-keeps-promise b line =
-    let l = lineOf (reading line) in
-    cases (sound b)
-    (λ s.
+answers-any b line s =
+    let l = lineOf (numbersRead line) in
     cases-eq (l .refusal) 0
-    (λ e. rw (s, eq-eqb (l .refusal) 0 e) (submitted b (bytesAfter b l) line true l (answerOf b l) (sym s) refl refl e (record { answered = refl; bytes = refl })))
-    (λ e. rw (s, ne-eqb (l .refusal) 0 e) (submitted-unread b line true l (Refused (l .refusal)) (sym s) refl refl e refl)))
-    (λ s. rw s (submitted-unsound b line false (Refused 1) (sym s) refl refl))
+    (λ e.
+    cases (wrong (asked (commandIn l)))
+    (λ w. rw (eq-eqb (l .refusal) 0 e, w) (answers-wrong b line true (Refused 5) l refl refl e (commandIn l) true refl (sym w) refl refl))
+    (λ w.
+    rw (eq-eqb (l .refusal) 0 e, w)
+    (answers-read b line true (answerOf b (commandIn l)) l refl refl e (commandIn l) false refl (sym w) (bytesAfter b (commandIn l)) refl
+    (record { answered = refl; bytes = refl }))))
+    (λ e. rw (ne-eqb (l .refusal) 0 e) (answers-unread b line true (Refused (l .refusal)) l refl refl e refl))
+
+pub keeps-promise : (b line : List ℕ) → Submitted b line (answerBy (sound b) b line) (bytesBy (sound b) b line)
+keeps-promise b line =
+    cases (sound b)
+    (λ s. rw s (answers-any b line s .promise (sym s)))
+    (λ s. rw s (answers-unsound b line false (Refused 1) refl refl .promise (sym s)))
+
+-- ---- an answer other than K: every byte is left
+
+untaken-keeps : (m : M.Book) (y : Reading) → (afterReading m y .answer ≡ Taken → ⊥) → keepsRead m y ≡ true
+unfolding afterReading keepsRead taken unless
+untaken-keeps m (refused n) h = refl
+untaken-keeps m (asks l v) h =
+    cases (isQuestion (commandOf l v))
+    (λ q. rw (q, or-true (not (eqb (refusal m (commandOf l v)) 0))))
+    (λ q.
+    cases-eq (refusal m (commandOf l v)) 0
+    (λ e. absurd (h (rw e (reply-edit m (commandOf l v) q))))
+    (λ e. rw (ne-eqb (refusal m (commandOf l v)) 0 e)))
+
+untaken-left : (b line : List ℕ) → (answerIn b line ≡ Taken → ⊥) → leftAsFound b line ≡ true
+unfolding answerIn leftAsFound keeps step
+untaken-left b line h =
+    cases (sound b)
+    (λ s. rw s (untaken-keeps (loneBook (depository line) b) (reading line) (λ e. h (rw s e))))
+    (λ s. rw s)
+
+pub untaken-kept : (b b′ line : List ℕ) (x : Answer) → Submitted b line x b′ → (x ≡ Taken → ⊥) → b′ ≡ b
+untaken-kept b b′ line x s h = s .kept (untaken-left b line (λ e. h (s .answered ∙ e)))

@@ -1,13 +1,13 @@
 -- What `submit` promises, for any bytes as the book and any bytes as the line: demands 1 and 2. Assumes nothing.
 use Prim.Native.Nat.{ℕ, _≤_}
 use mathlib.Core.Path.{_≡_}
-use mathlib.Core.Bool.{true, cond}
+use mathlib.Core.Bool.{Bool, true, cond, not, _||_}
 use mathlib.Core.List.{List}
 use Rattle.meaning.specs.Records as M
 use Rattle.meaning.specs.SameBook.{SameBook}
-use Rattle.meaning.specs.Lone.{step, names, depository}
+use Rattle.meaning.specs.Lone.{step, keeps, names, depository}
 use Rattle.meaning.specs.declared.Answer.{Answer}
-use Rattle.meaning.specs.declared.Answer.the-variants.{Taken, Refused}
+use Rattle.meaning.specs.declared.Answer.the-variants.{Refused}
 use Rattle.book.specs.Lone.{loneBook}
 use Rattle.book.specs.Sound.{sound}
 
@@ -20,11 +20,16 @@ answerIn b line = cond (sound b) (step (loneBook (depository line) b) line .answ
 unfoldable pub loneAfter : ℕ → List ℕ → List ℕ → M.Book
 loneAfter c b line = cond (names c line) (step (loneBook c b) line .book) (loneBook c b)
 
+-- a refused line, or a question: every line over a book that isn't sound is refused, and over a sound one the lone book of the depository
+-- that the line names tells
+unfoldable pub leftAsFound : List ℕ → List ℕ → Bool
+leftAsFound b line = not (sound b) || keeps (loneBook (depository line) b) line
+
 pub record Submitted (before line : List ℕ) (answer : Answer) (after : List ℕ) : Type 0 where
   -- one answer: a result, or the earliest refusal whose condition holds
   pub answered : answer ≡ answerIn before line
   -- a refused line, or a question, leaves every byte
-  pub kept : (answer ≡ Taken → ⊥) → after ≡ before
+  pub kept : leftAsFound before line ≡ true → after ≡ before
   -- a sound book stays sound
   pub stays : sound before ≡ true → sound after ≡ true
   -- and holds, of every depository, exactly the records that demand 2 gives

@@ -4,73 +4,72 @@ use mathlib.Core.Path.{_≡_}
 use mathlib.Core.Bool.{Bool, cond}
 use mathlib.Core.List.{List}
 use lib.Dec.{eqb}
-use Rattle.meaning.specs.Records.{_!_}
-use Rattle.meaning.specs.Reading.{reading}
+use Rattle.meaning.specs.Reading.{wrong, numbersRead}
 use Rattle.meaning.specs.Refusals.{refusal}
 use Rattle.meaning.specs.declared.Answer.{Answer}
 use Rattle.meaning.specs.declared.Answer.the-variants.{Taken, Refused, Judged}
+use Rattle.commands.specs.Asked.{asked, letterFor, commandFrom}
+use Rattle.commands.specs.declared.What.{What}
+use Rattle.commands.specs.declared.What.the-variants as What
+use Rattle.commands.specs.declared.Command.{Command}
 use Rattle.book.specs.Lone.{loneBook}
 use Rattle.book.specs.Sound.{sound}
-use Rattle.edits.specs.Asked.{byte, commandIn}
 use Rattle.edits.specs.Edit.{editIn}
 use Rattle.judge.specs.Stages.{judgedBy}
-use Rattle.matching.specs.declared.Question.{Question}
 use Rattle.line.specs.Line.{lineOf}
 use Rattle.line.specs.declared.reading.Line.{Line}
 use Rattle.precheck.specs.Promise.{Submitted}
 
--- ---- a line that was read
-
--- the question that a Q line's numbers ask
-unfoldable pub questionFrom : List ℕ → Question
-questionFrom v = record {
-  csd = byte v 0;
-  day = v ! 1;
-  object = byte v 2;
-  role = v ! 3;
-  movement = v ! 4;
-  payment = v ! 5;
-  transaction = v ! 6;
-  currency = v ! 7;
-  party = v ! 8;
-  account = v ! 9;
-  security = v ! 10;
-}
+-- ---- a command
 
 -- refusals 6 to 10; 0 for none
-unfoldable pub refusalOf : List ℕ → Line → ℕ
-refusalOf b l = refusal (loneBook (byte (l .values) 0) b) (commandIn (l .letter) (l .values))
+unfoldable pub refusalOf : List ℕ → Command → ℕ
+refusalOf b c = refusal (loneBook (c .csd) b) (asked c)
 
--- Q is at place 9 of the table of letters
-unfoldable pub answerOf : List ℕ → Line → Answer
-answerOf b l =
-    cond (eqb (l .letter) 9) (Judged (judgedBy b (questionFrom (l .values))))
-    (cond (eqb (refusalOf b l) 0) Taken (Refused (refusalOf b l)))
+-- what is replied where none holds, over the book as it is
+unfoldable pub replyTo : List ℕ → What → Answer
+replyTo b (What.AddType t) = Taken
+replyTo b (What.EndType number object last) = Taken
+replyTo b (What.AddRule r) = Taken
+replyTo b (What.Reorder new) = Taken
+replyTo b What.DeleteRule = Taken
+replyTo b What.AddRow = Taken
+replyTo b What.DeleteRow = Taken
+replyTo b (What.AddPeriod p) = Taken
+replyTo b (What.EndPeriod p) = Taken
+replyTo b (What.Ask q) = Judged (judgedBy b q)
 
-unfoldable pub bytesAfter : List ℕ → Line → List ℕ
-bytesAfter b l =
-    cond (eqb (l .letter) 9) b
-    (cond (eqb (refusalOf b l) 0) (editIn b (byte (l .values) 0) (commandIn (l .letter) (l .values))) b)
+unfoldable pub answerOf : List ℕ → Command → Answer
+answerOf b c = cond (eqb (refusalOf b c) 0) (replyTo b (c .what)) (Refused (refusalOf b c))
 
-pub record Took (before : List ℕ) (l : Line) (answer : Answer) (after : List ℕ) : Type 0 where
-  pub answered : answer ≡ answerOf before l
-  pub bytes : after ≡ bytesAfter before l
+-- a question's edit leaves every byte
+unfoldable pub bytesAfter : List ℕ → Command → List ℕ
+bytesAfter b c = cond (eqb (refusalOf b c) 0) (editIn b (c .csd) (asked c)) b
+
+pub record Took (before : List ℕ) (c : Command) (answer : Answer) (after : List ℕ) : Type 0 where
+  pub answered : answer ≡ answerOf before c
+  pub bytes : after ≡ bytesAfter before c
 
 -- ---- any line
 
--- refusals 2 to 5, or what is answered to the line that was read
+-- what a line that was read asks
+abbrev pub commandIn : Line → Command
+commandIn l = commandFrom (letterFor (l .letter)) (l .values)
+
+-- refusals 2 to 5, the last of which may lie in the whole command; or what is answered to it
 unfoldable pub answerRead : List ℕ → Line → Answer
-answerRead b l = cond (eqb (l .refusal) 0) (answerOf b l) (Refused (l .refusal))
+answerRead b l =
+    cond (eqb (l .refusal) 0) (cond (wrong (asked (commandIn l))) (Refused 5) (answerOf b (commandIn l))) (Refused (l .refusal))
 
 unfoldable pub bytesRead : List ℕ → Line → List ℕ
-bytesRead b l = cond (eqb (l .refusal) 0) (bytesAfter b l) b
+bytesRead b l = cond (eqb (l .refusal) 0) (cond (wrong (asked (commandIn l))) b (bytesAfter b (commandIn l))) b
 
 -- over a book that is sound, or is not
 unfoldable pub answerBy : Bool → List ℕ → List ℕ → Answer
-answerBy s b line = cond s (answerRead b (lineOf (reading line))) (Refused 1)
+answerBy s b line = cond s (answerRead b (lineOf (numbersRead line))) (Refused 1)
 
 unfoldable pub bytesBy : Bool → List ℕ → List ℕ → List ℕ
-bytesBy s b line = cond s (bytesRead b (lineOf (reading line))) b
+bytesBy s b line = cond s (bytesRead b (lineOf (numbersRead line))) b
 
 pub record Answers (s : Bool) (before line : List ℕ) (answer : Answer) (after : List ℕ) : Type 0 where
   pub answered : answer ≡ answerBy s before line

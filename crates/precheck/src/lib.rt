@@ -1,17 +1,18 @@
 // The pre-check's entry: a lent book is emptied, and a line is submitted to it. Nothing is required of the bytes of either.
 ghost use mathlib.Core.Path.{_≡_};
-ghost use Prim.Native.Nat.{_%_};
 ghost use Rattle.book.specs.Emptied.{Emptied};
 ghost use Rattle.book.specs.Sound.{sound};
 ghost use Rattle.precheck.specs.Promise.{Submitted};
-ghost use Rattle.precheck.specs.Taking.{questionFrom, Took, Answers};
+ghost use Rattle.precheck.specs.Taking.{replyTo, Took, Answers};
+use commands::Command;
+use commands::What;
+use commands::command_of;
+use commands::is_wrong;
 use edits::edit;
-use edits::refusal;
 use judge::judge;
-use line::Line;
 use line::read_line;
-use matching::Question;
 use meaning::Answer;
+use refusals::refusal;
 use soundness::is_sound;
 
 // Makes a book of no records from lent space of the exact size and answers 0; other sizes get 1 and stay untouched.
@@ -21,46 +22,29 @@ pub fn empty(book: &mut [u8]) -> u8
     book::empty(book)
 }
 
-fn low(x: u32) -> u8
-    ensures { λ r. ⌜ r ≡ x % 256 ⌝ }
+// What a command that is not refused is answered over the book as it is: a question its verdict, any other K.
+fn reply(book: &[u8], c: Command) -> Answer
+    ensures { λ r. ⌜ r ≡ replyTo (now (book .entry)) (c .what) ⌝ }
 {
-    (x % 256) as u8
+    let what = c.what;
+    if let What::Ask(q) = what {
+        return Answer::Judged(judge(book, q));
+    }
+    Answer::Taken
 }
 
-// The question that a Q line's numbers ask.
-fn question(v: [u32; 16]) -> Question
-    ensures { λ r. ⌜ r ≡ questionFrom v ⌝ }
+// What a command does to a book: the first refusal that holds is the answer, and the book stays; else the reply, and
+// the edit, which for a question changes nothing.
+fn take(book: &mut [u8], c: Command) -> Answer
+    ensures { λ r. ⌜ Took (now (book .entry)) c r (now (book .exit)) ⌝ }
 {
-    Question {
-        csd: low(v[0]),
-        day: v[1],
-        object: low(v[2]),
-        role: v[3],
-        movement: v[4],
-        payment: v[5],
-        transaction: v[6],
-        currency: v[7],
-        party: v[8],
-        account: v[9],
-        security: v[10],
-    }
-}
-
-// What a line that was read does to a book.
-fn take(book: &mut [u8], l: Line) -> Answer
-    ensures { λ r. ⌜ Took (now (book .entry)) l r (now (book .exit)) ⌝ }
-{
-    let letter = l.letter;
-    let v = l.values;
-    if letter == 9 {
-        return Answer::Judged(judge(book, question(v)));
-    }
-    let n = refusal(book, letter, v);
+    let n = refusal(book, c);
     if n != 0 {
         return Answer::Refused(n);
     }
-    edit(book, letter, v);
-    Answer::Taken
+    let answer = reply(book, c);
+    edit(book, c);
+    answer
 }
 
 // The answer to a line over a lent book that was found to be sound, or not to be; an accepted edit is stored in it.
@@ -74,7 +58,12 @@ pub fn answer(book: &mut [u8], line: &[u8], sound: bool) -> Answer
     if l.refusal != 0 {
         return Answer::Refused(l.refusal);
     }
-    take(book, l)
+    let values = l.values;
+    let c = command_of(l.letter, values);
+    if is_wrong(c) {
+        return Answer::Refused(5);
+    }
+    take(book, c)
 }
 
 // The answer to a line over a lent book; an accepted edit is stored in it.

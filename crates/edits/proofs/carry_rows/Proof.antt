@@ -4,6 +4,7 @@ use mathlib.Core.Path.{_≡_, ap, _∙_}
 use lib.ListN.{length}
 use native.Mathlib.Omega.{arith}
 use borrow.Author.Needs.{needs}
+use Rattle.places.specs.Layout.{rowPlaces}
 use Rattle.edits.specs.Moves.{carryRows}
 use Rattle.edits.proofs.Carried.{carried-length, carry-none, carry-next}
 use Rattle.edits.proofs.carry_rows.Statement.{statement}
@@ -11,10 +12,10 @@ use Rattle.edits.proofs.carry_rows.Tie as tie
 
 abbrev Inv-loop : tie.InvT-loop
 Inv-loop b₀ key new i₀ b i =
-    (i ≤ 1024) × (b ≡ carryRows (key .csd) (key .number) (key .object) (key .sequence) new b₀ i)
+    (i ≤ rowPlaces) × (b ≡ carryRows (key .csd) (key .number) (key .object) (key .sequence) new b₀ i)
 
 abbrev μ-loop : tie.MeasureT-loop
-μ-loop b₀ key new i₀ b i = 1024 - i
+μ-loop b₀ key new i₀ b i = rowPlaces - i
 
 pub carry-rows-spec : {M : Type 1} → statement M
 carry-rows-spec =
@@ -28,4 +29,4 @@ carry-rows-spec =
     (λ c. omega arith)
     (λ c. (omega arith, search carry-next))
     (λ c. ap length (c .before .loop .inv .1) ∙ carried-length _ _ _ _ _ _ _)
-    (λ c. let e : c .before .loop .i ≡ 1024 = omega arith in rw e at (c .before .loop .inv .1)))
+    (λ c. let e : c .before .loop .i ≡ rowPlaces = omega arith in rw e at (c .before .loop .inv .1)))

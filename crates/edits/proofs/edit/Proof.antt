@@ -1,5 +1,5 @@
 -- `edits::edit` meets its contract. Assumes nothing.
-use Rattle.edits.proofs.ByLetter.{edit-T, edit-E, edit-R, edit-O, edit-D, edit-M, edit-N, edit-A, edit-Z, edit-Q}
+use Rattle.edits.proofs.Does.{edit-T, edit-E, edit-R, edit-O, edit-D, edit-M, edit-N, edit-A, edit-Z, edit-Q}
 use borrow.Author.Needs.{needs}
 use Rattle.edits.proofs.edit.Statement.{statement}
 use Rattle.edits.proofs.edit.Tie as tie
@@ -9,6 +9,13 @@ edit-spec =
     tie.close
     (tie.spec
     (λ c κs. search needs)
+    (λ c. search needs)
+    (λ c κs. search needs)
+    (λ c κs. search needs)
+    (λ c. search needs)
+    (λ c κs. search needs)
+    (λ c. search needs)
+    (λ c κs. search needs)
     (λ c κs. search needs)
     (λ c. search needs)
     (λ c κs. search needs)
@@ -18,22 +25,13 @@ edit-spec =
     (λ c κs. search needs)
     (λ c. search needs)
     (λ c κs. search needs)
-    (λ c κs. search needs)
+    (λ c. search needs)
     (λ c κs. search needs)
     (λ c κs. search needs)
     (λ c. search needs)
     (λ c κs. search needs)
     (λ c κs. search needs)
-    (λ c κs. search needs)
-    (λ c κs. search needs)
-    (λ c κs. search needs)
-    (λ c κs. search needs)
-    (λ c κs. search needs)
-    (λ c κs. search needs)
-    (λ c κs. search needs)
-    (λ c κs. search needs)
-    (λ c κs. search needs)
-    (λ c κs. search needs)
+    (λ c. search needs)
     (λ c. search needs)
     (λ c. search edit-T)
     (λ c. search needs)

@@ -1,0 +1,191 @@
+-- What the commands of each letter show, from what the calls ensure; and which letter an arm of the match on the byte is for.
+use Prim.Native.Nat.{ℕ, zero, suc, _+_, _%_}
+use mathlib.Core.Path.{_≡_, refl, ap, sym, _∙_}
+use mathlib.Core.Bool.{Bool, false, not, cond, _&&_, _||_, and-true}
+use mathlib.Core.List.{List, [], _∷_, map}
+use native.Mathlib.Omega.{arith}
+use lib.Dec.{eqb, ltb}
+use lib.ListN.{getD, replicate}
+use borrow.Author.Tests.{ne-eqb}
+use Rattle.tables.proofs.Counts.{cases}
+use Rattle.meaning.specs.Text.{bytes, same}
+use Rattle.meaning.specs.Forms.{Letter, letterT, letterE, letterR, letterO, letterD, letterM, letterN, letterA, letterZ, letterQ, letterText, Shape, shapeT, shapeE, shapeR, shapeO, shapeD, shapeM, shapeN, shapeA, shapeZ, shapeQ, hasLetter, firstShape}
+use Rattle.meaning.specs.Records.{_!_, commandOf}
+use Rattle.meaning.specs.Reading.{wrong}
+use Rattle.records.specs.Said.{typeOf, ruleOf, periodOf}
+use Rattle.places.specs.Layout.{zeroRow}
+use Rattle.places.specs.declared.RestrictionType.{RestrictionType}
+use Rattle.places.specs.declared.Rule.{Rule}
+use Rattle.places.specs.declared.Row.{Row}
+use Rattle.places.specs.declared.Period.{Period}
+use Rattle.commands.specs.Asked.{askedBy, asked, whatOf, rowBeside, coded, orQuestion, letterFor, commandFrom}
+use Rattle.commands.specs.declared.Question.{Question}
+use Rattle.commands.specs.declared.What.{What}
+use Rattle.commands.specs.declared.What.the-variants as What
+use Rattle.commands.specs.declared.Command.{Command}
+
+-- ---- each letter
+
+module _ (v : List ℕ) (c : ℕ) (z : Row) where
+  pub made-T : (t : RestrictionType) (n o p : ℕ) → z ≡ zeroRow → t ≡ record { csd = c; number = n; object = o; processing = p; first = v ! 5; last = v ! 6 }
+      → p ≡ v ! 4 % 256 → o ≡ v ! 3 % 256 → n ≡ v ! 2 % 256 → c ≡ v ! 0 % 256
+      → record { csd = c; day = v ! 1; what = What.AddType t; row = z } ≡ commandFrom letterT v
+  unfolding coded commandOf
+  made-T t n o p e f g h i j = rw (e, f, g, h, i, j)
+
+  pub made-E : (n o : ℕ) → z ≡ zeroRow → o ≡ v ! 3 % 256 → n ≡ v ! 2 % 256 → c ≡ v ! 0 % 256
+      → record { csd = c; day = v ! 1; what = What.EndType n o (v ! 4); row = z } ≡ commandFrom letterE v
+  unfolding coded commandOf
+  made-E n o e f g h = rw (e, f, g, h)
+
+  pub made-R : (r : Rule) (n o s g : ℕ) → z ≡ zeroRow
+      → r ≡ record { csd = c; number = n; object = o; sequence = s; sign = g; criteria = v ! 6; first = v ! 7; last = v ! 8 }
+      → g ≡ v ! 5 % 256 → s ≡ v ! 4 % 256 → o ≡ v ! 3 % 256 → n ≡ v ! 2 % 256 → c ≡ v ! 0 % 256
+      → record { csd = c; day = v ! 1; what = What.AddRule r; row = z } ≡ commandFrom letterR v
+  unfolding coded commandOf
+  made-R r n o s g e f h i j k l = rw (e, f, h, i, j, k, l)
+
+  pub made-O : (new : ℕ) → z ≡ rowBeside (v ! 0 % 256) (commandOf letterD v) → new ≡ v ! 5 % 256 → c ≡ v ! 0 % 256
+      → record { csd = c; day = v ! 1; what = What.Reorder new; row = z } ≡ commandFrom letterO v
+  unfolding coded commandOf
+  made-O new e f g = rw (e, f, g)
+
+  pub made-D : z ≡ rowBeside (v ! 0 % 256) (commandOf letterD v) → c ≡ v ! 0 % 256
+      → record { csd = c; day = v ! 1; what = What.DeleteRule; row = z } ≡ commandFrom letterD v
+  unfolding coded commandOf
+  made-D e f = rw (e, f)
+
+  pub made-M : z ≡ rowBeside (v ! 0 % 256) (commandOf letterM v) → c ≡ v ! 0 % 256
+      → record { csd = c; day = v ! 1; what = What.AddRow; row = z } ≡ commandFrom letterM v
+  unfolding coded commandOf
+  made-M e f = rw (e, f)
+
+  pub made-N : z ≡ rowBeside (v ! 0 % 256) (commandOf letterM v) → c ≡ v ! 0 % 256
+      → record { csd = c; day = v ! 1; what = What.DeleteRow; row = z } ≡ commandFrom letterN v
+  unfolding coded commandOf
+  made-N e f = rw (e, f)
+
+  pub made-A : (p : Period) (k : ℕ) → z ≡ zeroRow → p ≡ record { csd = c; kind = k; number = v ! 3; code = v ! 4; first = v ! 5; last = v ! 6 }
+      → k ≡ v ! 2 % 256 → c ≡ v ! 0 % 256
+      → record { csd = c; day = v ! 1; what = What.AddPeriod p; row = z } ≡ commandFrom letterA v
+  unfolding coded commandOf
+  made-A p k e f g h = rw (e, f, g, h)
+
+  pub made-Z : (p : Period) (k : ℕ) → z ≡ zeroRow → p ≡ record { csd = c; kind = k; number = v ! 3; code = v ! 4; first = v ! 5; last = v ! 6 }
+      → k ≡ v ! 2 % 256 → c ≡ v ! 0 % 256
+      → record { csd = c; day = v ! 1; what = What.EndPeriod p; row = z } ≡ commandFrom letterZ v
+  unfolding coded commandOf
+  made-Z p k e f g h = rw (e, f, g, h)
+
+  pub made-Q : (o : ℕ) → z ≡ zeroRow → o ≡ v ! 2 % 256 → c ≡ v ! 0 % 256
+      → record {
+        csd = c;
+        day = v ! 1;
+        what = What.Ask (record { csd = c; day = v ! 1; object = o; role = v ! 3; movement = v ! 4; payment = v ! 5; transaction = v ! 6; currency = v ! 7; party = v ! 8; account = v ! 9; security = v ! 10 });
+        row = z;
+      }
+      ≡ commandFrom letterQ v
+  unfolding coded commandOf
+  made-Q o e f g = rw (e, f, g)
+
+-- the rows beside
+module _ (v : List ℕ) (c n o s : ℕ) (r : Row) where
+  pub made-key : r ≡ record { csd = c; number = n; object = o; sequence = s; values = replicate 10 0 }
+      → s ≡ v ! 4 % 256 → o ≡ v ! 3 % 256 → n ≡ v ! 2 % 256 → c ≡ v ! 0 % 256 → r ≡ rowBeside (v ! 0 % 256) (commandOf letterD v)
+  unfolding rowBeside commandOf
+  made-key e f g h i = e ∙ rw (f, g, h, i)
+
+  pub made-row : r ≡ record { csd = c; number = n; object = o; sequence = s; values = v ! 5 ∷ v ! 6 ∷ v ! 7 ∷ v ! 8 ∷ v ! 9 ∷ v ! 10 ∷ v ! 11 ∷ v ! 12 ∷ v ! 13 ∷ v ! 14 ∷ [] }
+      → s ≡ v ! 4 % 256 → o ≡ v ! 3 % 256 → n ≡ v ! 2 % 256 → c ≡ v ! 0 % 256 → r ≡ rowBeside (v ! 0 % 256) (commandOf letterM v)
+  unfolding rowBeside commandOf
+  made-row e f g h i = e ∙ rw (f, g, h, i)
+
+-- ---- the match on the letter's byte
+
+-- what the last arm knows, whose other arms are these bytes, the last of them first
+abbrev pub NoneOf : List ℕ → ℕ → Type 0
+NoneOf [] n = Unit {0}
+NoneOf (k ∷ ks) n = NoneOf ks n × (n ≡ k → ⊥)
+
+-- the byte of a letter
+abbrev pub letterByte : Letter → ℕ
+letterByte l = getD (letterText l) 0 0
+
+pub one-byte : (l : Letter) → letterText l ≡ letterByte l ∷ []
+one-byte letterT = refl
+one-byte letterE = refl
+one-byte letterR = refl
+one-byte letterO = refl
+one-byte letterD = refl
+one-byte letterM = refl
+one-byte letterN = refl
+one-byte letterA = refl
+one-byte letterZ = refl
+one-byte letterQ = refl
+
+pub letter-for : (l : Letter) → letterFor (letterByte l) ≡ l
+unfolding letterFor
+letter-for letterT = refl
+letter-for letterE = refl
+letter-for letterR = refl
+letter-for letterO = refl
+letter-for letterD = refl
+letter-for letterM = refl
+letter-for letterN = refl
+letter-for letterA = refl
+letter-for letterZ = refl
+letter-for letterQ = refl
+
+has-byte : (n : ℕ) (s : Shape) → hasLetter (n ∷ []) s ≡ eqb n (letterByte (s .letter))
+has-byte n s = ap (same (n ∷ [])) (one-byte (s .letter)) ∙ and-true (eqb n (letterByte (s .letter)))
+
+-- rows behind others in turn
+abbrev after : List Shape → List Shape → List Shape
+after [] l = l
+after (s ∷ ss) l = after ss (s ∷ l)
+
+-- rows of other letters are passed over
+passed : (n : ℕ) (ss l : List Shape) → NoneOf (map (λ s. letterByte (s .letter)) ss) n
+    → firstShape (hasLetter (n ∷ [])) (after ss l) ≡ firstShape (hasLetter (n ∷ [])) l
+unfolding firstShape
+passed n [] l r = refl
+passed n (s ∷ ss) l r = passed n ss (s ∷ l) (r .0) ∙ rw (has-byte n s ∙ ne-eqb n (letterByte (s .letter)) (r .1))
+
+-- none of the bytes before Q's
+none-Q : (n : ℕ) → NoneOf (bytes "ZANMDORET") n → letterFor n ≡ letterQ
+unfolding letterFor
+none-Q n r =
+    ap orQuestion
+    (passed n (shapeZ ∷ shapeA ∷ shapeN ∷ shapeM ∷ shapeD ∷ shapeO ∷ shapeR ∷ shapeE ∷ shapeT ∷ []) (shapeQ ∷ []) r)
+    ∙ cases (hasLetter (n ∷ []) shapeQ) (λ e. rw e) (λ e. rw e)
+
+module _ (v : List ℕ) (n : ℕ) (x : Command) where
+  pub arm : (l : Letter) → x ≡ commandFrom l v → n ≡ letterByte l → x ≡ commandFrom (letterFor n) v
+  arm l e f = rw (f, letter-for l) e
+
+  pub last-arm : NoneOf (bytes "ZANMDORET") n → x ≡ commandFrom letterQ v → x ≡ commandFrom (letterFor n) v
+  last-arm r f = rw (none-Q n r) f
+
+-- ---- refusal 5 of a command
+
+module _ (c : Command) where
+  pub wrong-T : (r : Bool) (t : RestrictionType) (x : Bool) → c .what ≡ What.AddType t → r ≡ (x || ltb (t .last) (t .first)) → x ≡ (eqb (t .processing) 3 && eqb (t .object) 2)
+      → r ≡ wrong (asked c)
+  unfolding wrong askedBy typeOf
+  wrong-T r t x e f g = rw (e, f, g)
+
+  pub never-wrong : (w : What) → c .what ≡ w → false ≡ wrong (askedBy (c .day) (c .row) w) → false ≡ wrong (asked c)
+  never-wrong w e f = rw e f
+
+  pub wrong-R : (t : Rule) → c .what ≡ What.AddRule t → ltb (t .last) (t .first) ≡ wrong (asked c)
+  unfolding wrong askedBy ruleOf
+  wrong-R t e = rw e
+
+  pub wrong-A : (p : Period) → c .what ≡ What.AddPeriod p → ltb (p .last) (p .first) ≡ wrong (asked c)
+  unfolding wrong askedBy periodOf
+  wrong-A p e = rw e
+
+  pub wrong-Q : (r : Bool) (q : Question) (x y z : Bool) → c .what ≡ What.Ask q → r ≡ cond (eqb (q .object) 1) x y → y ≡ not z
+      → z ≡ (eqb (q .movement) 0 && eqb (q .payment) 0) → x ≡ (eqb (q .movement) 0 || eqb (q .payment) 0) → r ≡ wrong (asked c)
+  unfolding wrong askedBy
+  wrong-Q r q x y z e f g h i = rw (e, f, g, h, i)

@@ -1,0 +1,103 @@
+-- A command whose one-byte fields are below 256 is coded as itself, and so is what is read of a line.
+use Prim.Native.Nat.{ℕ, _%_, _<_}
+use mathlib.Core.Path.{_≡_, refl, sym, _∙_}
+use mathlib.Core.Bool.{true}
+use mathlib.Core.List.{List}
+use native.Mathlib.Omega.{arith}
+use lib.ListN.{length, getD}
+use borrow.Author.Tests.{leb-true}
+use Rattle.tables.proofs.Counts.{ands}
+use Rattle.meaning.specs.Fields.{within}
+use Rattle.meaning.specs.Forms.{holds, holdsAll, day, Letter, Shape, shapes, shapeT, shapeE, shapeR, shapeO, shapeD, shapeM, shapeN, shapeA, shapeZ, shapeQ}
+use Rattle.meaning.specs.Records as M
+use Rattle.meaning.specs.Records.{_!_, commandOf}
+use Rattle.meaning.proofs.Shapes.{Ranged, by-rows}
+use Rattle.meaning.proofs.Ranges.{holds-at}
+use Rattle.records.specs.Said.{typeOf, ruleOf, rowOf, periodOf}
+use Rattle.commands.specs.Asked.{askedBy, asked, coded}
+
+-- The numbers of a key: type, object and sequence.
+abbrev Key : ℕ → ℕ → ℕ → Type 0
+Key type object sequence = (type < 256) × (object < 256) × (sequence < 256)
+
+-- The day is the command's, and what stands in one byte is below 256.
+abbrev pub Narrow : ℕ → M.Command → Type 0
+Narrow d (M.addType e t) = (e ≡ d) × (t .type < 256) × (t .object < 256) × (t .processing < 256)
+Narrow d (M.endType e type object last) = (e ≡ d) × (type < 256) × (object < 256)
+Narrow d (M.addRule e r) = (e ≡ d) × Key (r .type) (r .object) (r .sequence) × (r .sign < 256)
+Narrow d (M.reorder type object sequence new) = Key type object sequence × (new < 256)
+Narrow d (M.deleteRule type object sequence) = Key type object sequence
+Narrow d (M.addRow w) = Key (w .type) (w .object) (w .sequence)
+Narrow d (M.deleteRow w) = Key (w .type) (w .object) (w .sequence)
+Narrow d (M.addPeriod e p) = (e ≡ d) × (p .kind < 256)
+Narrow d (M.endPeriod e kind number code first last) = (e ≡ d) × (kind < 256)
+Narrow d (M.ask q) = (q .object < 256)
+
+pub low-same : (n : ℕ) → n < 256 → n % 256 ≡ n
+low-same n l = omega arith
+
+pub asked-coded : (c d : ℕ) (k : M.Command) → Narrow d k → asked (coded c d k) ≡ k
+unfolding coded askedBy typeOf ruleOf rowOf periodOf
+asked-coded c d (M.addType e t) (f, n, o, p) = rw (f, low-same (t .type) n, low-same (t .object) o, low-same (t .processing) p)
+asked-coded c d (M.endType e type object last) (f, n, o) = rw (f, low-same type n, low-same object o)
+asked-coded c d (M.addRule e r) (f, (n, o, s), g) =
+    rw (f, low-same (r .type) n, low-same (r .object) o, low-same (r .sequence) s, low-same (r .sign) g)
+asked-coded c d (M.reorder type object sequence new) ((n, o, s), x) =
+    rw (low-same type n, low-same object o, low-same sequence s, low-same new x)
+asked-coded c d (M.deleteRule type object sequence) (n, o, s) = rw (low-same type n, low-same object o, low-same sequence s)
+asked-coded c d (M.addRow w) (n, o, s) = rw (low-same (w .type) n, low-same (w .object) o, low-same (w .sequence) s)
+asked-coded c d (M.deleteRow w) (n, o, s) = rw (low-same (w .type) n, low-same (w .object) o, low-same (w .sequence) s)
+asked-coded c d (M.addPeriod e p) (f, k) = rw (f, low-same (p .kind) k)
+asked-coded c d (M.endPeriod e kind number code first last) (f, k) = rw (f, low-same kind k)
+asked-coded c d (M.ask q) o = rw (low-same (q .object) o)
+
+-- ---- the numbers of a letter's fields, each in its form's range
+
+below : (m n : ℕ) → m < 256 → within 1 m n ≡ true → n < 256
+below m n l e = omega (arith, leb-true n m (search ands))
+
+-- by a row's forms
+abbrev Read : List ℕ → Shape → Type 0
+Read v s = holdsAll (s .forms) v ≡ true → Narrow (v ! 1) (commandOf (s .letter) v)
+
+pub narrow-read : (l : Letter) (v : List ℕ) → Ranged l v → Narrow (v ! 1) (commandOf l v)
+unfolding shapes commandOf holds
+narrow-read l v r =
+    by-rows (λ l v. Narrow (v ! 1) (commandOf l v))
+    (read-T, (read-E, (read-R, (read-O, (read-D, (read-M, (read-N, (read-A, (read-Z, (read-Q, tt))))))))))
+    r
+  where
+    -- the number at a place, whose form is from 1 to m
+    byte : (s : Shape) (i m : ℕ) → holdsAll (s .forms) v ≡ true → i < length (s .forms)
+        → holds (getD (s .forms) i day) (v ! i) ≡ within 1 m (v ! i) → m < 256 → v ! i < 256
+    byte s i m e l f k = below m (v ! i) k (sym f ∙ holds-at (s .forms) v e i l)
+
+    read-T : Read v shapeT
+    read-T e = (refl, byte shapeT 2 99 e (omega arith) refl (omega arith), byte shapeT 3 2 e (omega arith) refl (omega arith), byte shapeT 4 3 e (omega arith) refl (omega arith))
+
+    read-E : Read v shapeE
+    read-E e = (refl, byte shapeE 2 99 e (omega arith) refl (omega arith), byte shapeE 3 2 e (omega arith) refl (omega arith))
+
+    read-R : Read v shapeR
+    read-R e = (refl, (byte shapeR 2 99 e (omega arith) refl (omega arith), byte shapeR 3 2 e (omega arith) refl (omega arith), byte shapeR 4 99 e (omega arith) refl (omega arith)), byte shapeR 5 2 e (omega arith) refl (omega arith))
+
+    read-O : Read v shapeO
+    read-O e = ((byte shapeO 2 99 e (omega arith) refl (omega arith), byte shapeO 3 2 e (omega arith) refl (omega arith), byte shapeO 4 99 e (omega arith) refl (omega arith)), byte shapeO 5 99 e (omega arith) refl (omega arith))
+
+    read-D : Read v shapeD
+    read-D e = (byte shapeD 2 99 e (omega arith) refl (omega arith), byte shapeD 3 2 e (omega arith) refl (omega arith), byte shapeD 4 99 e (omega arith) refl (omega arith))
+
+    read-M : Read v shapeM
+    read-M e = (byte shapeM 2 99 e (omega arith) refl (omega arith), byte shapeM 3 2 e (omega arith) refl (omega arith), byte shapeM 4 99 e (omega arith) refl (omega arith))
+
+    read-N : Read v shapeN
+    read-N e = (byte shapeN 2 99 e (omega arith) refl (omega arith), byte shapeN 3 2 e (omega arith) refl (omega arith), byte shapeN 4 99 e (omega arith) refl (omega arith))
+
+    read-A : Read v shapeA
+    read-A e = (refl, byte shapeA 2 3 e (omega arith) refl (omega arith))
+
+    read-Z : Read v shapeZ
+    read-Z e = (refl, byte shapeZ 2 3 e (omega arith) refl (omega arith))
+
+    read-Q : Read v shapeQ
+    read-Q e = byte shapeQ 2 2 e (omega arith) refl (omega arith)

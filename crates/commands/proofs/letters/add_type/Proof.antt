@@ -1,0 +1,32 @@
+-- `commands::letters::add_type` meets its contract; facts are named, for `search` does not come to an end. Assumes nothing.
+use Rattle.commands.proofs.Decoded.{made-T}
+use borrow.Author.Needs.{needs}
+use Rattle.commands.proofs.letters.add_type.Statement.{statement}
+use Rattle.commands.proofs.letters.add_type.Tie as tie
+
+pub add-type-spec : {M : Type 1} → statement M
+add-type-spec =
+    tie.close
+    (tie.spec
+    (λ c. search needs)
+    (λ c κs. search needs)
+    (λ c. search needs)
+    (λ c κs. search needs)
+    (λ c. search needs)
+    (λ c κs. search needs)
+    (λ c. search needs)
+    (λ c κs. search needs)
+    (λ c. search needs)
+    (λ c. search needs)
+    (λ c κs. search needs)
+    (λ c. search needs)
+    (λ c κs. search needs)
+    (λ c.
+    let made = c .before .before in
+    made-T (made .before .before .before .before .args .t1) _ _ _ _ _ _
+    (c .zero .ensures)
+    (c .before .new .ensures)
+    (made .low4 .ensures)
+    (made .before .low3 .ensures)
+    (made .before .before .low2 .ensures)
+    (made .before .before .before .low .ensures)))
