@@ -1,6 +1,7 @@
 #!/usr/bin/env python3
 """Writes what a store at one place leaves of the lone lists (crates/book/proofs/ListsKept.antt), for each table.
 Usage: edits.py (in the repository's root), then rt fmt."""
+from wrap import wrap
 # table, struct, the meaning's record, how many numbers a place holds
 T = [("type", "RestrictionType", "TypeRecord", 6), ("rule", "Rule", "Rule", 8), ("row", "Row", "Row", 14), ("period", "Period", "Period", 6)]
 # the tables whose records a command deletes, and those whose records it changes
@@ -76,4 +77,4 @@ module _ (b : List ℕ) (i c : ℕ) (t : M.{R} → Bool) (place : i < {n}Places)
       lone-changed (λ x. x .csd) {n}Of c t ({n}At b) i {n}Places place own hit once ({n}At (put{P} b i r)) (λ k l. {n}-other b i r k) g
       (ap (λ x. x .csd) e ∙ o) (ap {n}Of e ∙ f) {n}Places (omega arith)
 """
-open("crates/book/proofs/ListsKept.antt", "w").write(out)
+open("crates/book/proofs/ListsKept.antt", "w").write(wrap(out))

@@ -4,8 +4,8 @@
 Usage: line_vectors.py VECTORS   (in the repository's root; VECTORS has NAME.in and NAME.out)
 A line of NAME.in has the refusal of NAME.out if that is F,2 to F,5; any other answer means that it is read, 0.
 Of each first byte and each refusal the first EACH lines are taken, then the lines below.
-The program writes a refused line's refusal, and the letter of a line that is read. read_line does not give refusal 5 where each field is of
-its form and only the fields together are wrong: such a line is read.
+The program writes a refused line's refusal, and the letter of a line that is read. read_line does not give refusal 5
+where each field is of its form and only the fields together are wrong: such a line is read.
 """
 import datetime
 import sys
@@ -61,7 +61,9 @@ FORMS = {
     b"N": KEY + [up_to(99)] + [optional(f) for f in TEN],
     b"A": PERIOD,
     b"Z": PERIOD,
-    b"Q": [up_to(8), day, up_to(2), up_to(3)] + [optional(f) for f in (MOVEMENT, PAYMENT, letters(4), letters(3))] + [up_to(999999)] * 3,
+    b"Q": [up_to(8), day, up_to(2), up_to(3)]
+    + [optional(f) for f in (MOVEMENT, PAYMENT, letters(4), letters(3))]
+    + [up_to(999999)] * 3,
 }
 
 

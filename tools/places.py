@@ -1,24 +1,31 @@
 #!/usr/bin/env python3
-"""Writes what differs between the tables only in sizes and names: the structs and reading (crates/places), storing (crates/stores).
-Usage: places.py (in the repository's root), then rt fmt. The one place where the layout is written; docs/LAYOUT.md says it in words."""
+"""Writes what differs between the tables only in sizes and names: the structs and reading (crates/places), storing
+(crates/stores). Usage: places.py (in the repository's root), then rt fmt. The one place where the layout is written;
+docs/LAYOUT.md says it in words."""
 import os
+from wrap import wrap
 
 # struct, name, places, quota, fields: name and bytes; values: bytes of each of an array's numbers
 TABLES = [
-    ("RestrictionType", "type", 128, 16, [("csd", 1), ("number", 1), ("object", 1), ("processing", 1), ("first", 4), ("last", 4)]),
-    ("Rule", "rule", 512, 64, [("csd", 1), ("number", 1), ("object", 1), ("sequence", 1), ("sign", 1), ("criteria", 2), ("first", 4), ("last", 4)]),
-    ("Row", "row", 1024, 128, [("csd", 1), ("number", 1), ("object", 1), ("sequence", 1), ("values", [1, 1, 1, 4, 3, 3, 2, 2, 2, 3])]),
-    ("Period", "period", 1024, 128, [("csd", 1), ("kind", 1), ("number", 3), ("code", 2), ("first", 4), ("last", 4)]),
+    ("RestrictionType", "type", 128, 16,
+     [("csd", 1), ("number", 1), ("object", 1), ("processing", 1), ("first", 4), ("last", 4)]),
+    ("Rule", "rule", 512, 64,
+     [("csd", 1), ("number", 1), ("object", 1), ("sequence", 1), ("sign", 1), ("criteria", 2), ("first", 4), ("last", 4)]),
+    ("Row", "row", 1024, 128,
+     [("csd", 1), ("number", 1), ("object", 1), ("sequence", 1), ("values", [1, 1, 1, 4, 3, 3, 2, 2, 2, 3])]),
+    ("Period", "period", 1024, 128,
+     [("csd", 1), ("kind", 1), ("number", 3), ("code", 2), ("first", 4), ("last", 4)]),
 ]
 WHAT = {
     "RestrictionType": "A restriction type of a depository: what becomes of an object that its rules match.",
     "Rule": "A rule of a type, with the criteria that its rows fill.",
     "Row": "A row of a rule: its ten values, 0 where empty.",
-    "Period": "An attribute period: the days on which a party, an account or a security hasCode a code.",
+    "Period": "An attribute period: the days on which a party, an account or a security has a code.",
 }
 # numbers that a field may hold, by name, as document 01 names them
 NAMED = {
-    "RestrictionType": [("INSTRUCTION", 1), ("RESTRICTION", 2), ("REJECTION", 1), ("VALIDATION_HOLD", 2), ("PARTY_HOLD", 3)],
+    "RestrictionType": [("INSTRUCTION", 1), ("RESTRICTION", 2),
+                        ("REJECTION", 1), ("VALIDATION_HOLD", 2), ("PARTY_HOLD", 3)],
     "Rule": [("POSITIVE", 1), ("NEGATIVE", 2)],
     "Row": [],
     "Period": [("PARTY", 1), ("ACCOUNT", 2), ("SECURITY", 3)],
@@ -30,7 +37,7 @@ S = "crates/stores"
 
 def write(path, text):
     os.makedirs(os.path.dirname(path), exist_ok=True)
-    open(path, "w").write(text)
+    open(path, "w").write(wrap(text))
 
 def flat(fields):
     """each number: the field, its place in an array or none, its bytes, its offset"""
@@ -49,7 +56,7 @@ for s, n, places, quota, fields in TABLES:
 
 # ---- the code
 code = open("tools/places.head.txt").read()
-code = code.replace("BYTES", str(start)).replace("LAYOUT", ", ".join(f"{n}At, zero{n.capitalize()}" for _, n, *_ in layout))
+code = code.replace("BYTES", str(start)).replace("{LAYOUT}", "{%s}" % ", ".join(f"{n}At, zero{n.capitalize()}" for _, n, *_ in layout))
 store = open("tools/stores.head.txt").read()
 store = store.replace("LAYOUT", ", ".join(f"put{n.capitalize()}" for _, n, *_ in layout))
 store = store.replace("USES", "".join(f"use places::{s};\n" for s in sorted(s for s, *_ in layout)))

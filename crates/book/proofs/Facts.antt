@@ -1,4 +1,5 @@
--- A SOUND BOOK AS FACTS, and back: the exact size, each place all zero or a depository's, each depository's lone book sound.
+-- A SOUND BOOK AS FACTS, and back: the exact size, each place all zero or a depository's, each depository's lone book
+-- sound.
 use Prim.Native.Nat.{ℕ, _+_, _-_, _≤_, _<_}
 use mathlib.Core.Path.{_≡_, refl}
 use mathlib.Core.Bool.{Bool, true, false, _||_}
@@ -53,7 +54,8 @@ module _ (b : List ℕ) (g : GoodBook b) where
   pub row-owner : (k : ℕ) → k < rowPlaces → (rowAt b k .csd ≡ 0 → ⊥) → (1 ≤ rowAt b k .csd) × (rowAt b k .csd ≤ 8)
   row-owner k l h = owner (rowAt b k .csd) (rowZero (rowAt b k)) (row-nobody (rowAt b k)) (g .rows k l) h
 
-  pub period-owner : (k : ℕ) → k < periodPlaces → (periodAt b k .csd ≡ 0 → ⊥) → (1 ≤ periodAt b k .csd) × (periodAt b k .csd ≤ 8)
+  pub period-owner : (k : ℕ) → k < periodPlaces → (periodAt b k .csd ≡ 0 → ⊥)
+      → (1 ≤ periodAt b k .csd) × (periodAt b k .csd ≤ 8)
   period-owner k l h = owner (periodAt b k .csd) (periodZero (periodAt b k)) (period-nobody (periodAt b k)) (g .periods k l) h
 
   pub types-few : (c : ℕ) → 1 ≤ c → c ≤ 8 → length (typesOf c b) ≤ M.typeQuota

@@ -48,14 +48,16 @@ module _ (b : List ℕ) (i : ℕ) (r : RestrictionType) (place : i < typePlaces)
   periods-by-type a = lone-same (λ x. x .csd) periodOf a (periodAt b) (periodAt (putType b i r)) periodPlaces (period-by-type b i r place)
 
   -- a place that stays out of a's hands
-  pub types-still : Hold typeWidths (typeNumbers r) → length b ≡ bookSize → (a : ℕ) → (typeAt b i .csd ≡ a → ⊥) → (r .csd ≡ a → ⊥) → typesOf a (putType b i r) ≡ typesOf a b
+  pub types-still : Hold typeWidths (typeNumbers r) → length b ≡ bookSize → (a : ℕ) → (typeAt b i .csd ≡ a → ⊥)
+      → (r .csd ≡ a → ⊥) → typesOf a (putType b i r) ≡ typesOf a b
   unfolding typesOf
   types-still h s a d e =
       lone-still (λ x. x .csd) typeOf a (typeAt b) (typeAt (putType b i r)) i typePlaces place (λ k l. type-other b i r k) d
       (λ q. e (sym (ap (λ x. x .csd) (type-back b i r h (omega arith))) ∙ q))
 
   -- a record more, at a free place
-  pub types-added : Hold typeWidths (typeNumbers r) → length b ≡ bookSize → (typeAt b i .csd ≡ r .csd → ⊥) → Same (typesOf (r .csd) (putType b i r)) (typeOf r ∷ typesOf (r .csd) b)
+  pub types-added : Hold typeWidths (typeNumbers r) → length b ≡ bookSize → (typeAt b i .csd ≡ r .csd → ⊥)
+      → Same (typesOf (r .csd) (putType b i r)) (typeOf r ∷ typesOf (r .csd) b)
   unfolding typesOf
   types-added h s d =
       let e = type-back b i r h (omega arith) in
@@ -64,7 +66,8 @@ module _ (b : List ℕ) (i : ℕ) (r : RestrictionType) (place : i < typePlaces)
 
 module _ (b : List ℕ) (i c : ℕ) (t : M.TypeRecord → Bool) (place : i < typePlaces) (size : length b ≡ bookSize) (own : typeAt b i .csd ≡ c) (hit : t (typeOf (typeAt b i)) ≡ true) (once : count t (typesOf c b) ≤ 1) where
   -- a record changed where it stands
-  pub types-changed : (r : RestrictionType) (g : M.TypeRecord → M.TypeRecord) → Hold typeWidths (typeNumbers r) → r .csd ≡ c → typeOf r ≡ g (typeOf (typeAt b i)) → typesOf c (putType b i r) ≡ change t g (typesOf c b)
+  pub types-changed : (r : RestrictionType) (g : M.TypeRecord → M.TypeRecord) → Hold typeWidths (typeNumbers r)
+      → r .csd ≡ c → typeOf r ≡ g (typeOf (typeAt b i)) → typesOf c (putType b i r) ≡ change t g (typesOf c b)
   unfolding typesOf change
   types-changed r g h o f =
       let e = type-back b i r h (omega arith) in
@@ -87,14 +90,16 @@ module _ (b : List ℕ) (i : ℕ) (r : Rule) (place : i < rulePlaces) where
   periods-by-rule a = lone-same (λ x. x .csd) periodOf a (periodAt b) (periodAt (putRule b i r)) periodPlaces (period-by-rule b i r place)
 
   -- a place that stays out of a's hands
-  pub rules-still : Hold ruleWidths (ruleNumbers r) → length b ≡ bookSize → (a : ℕ) → (ruleAt b i .csd ≡ a → ⊥) → (r .csd ≡ a → ⊥) → rulesOf a (putRule b i r) ≡ rulesOf a b
+  pub rules-still : Hold ruleWidths (ruleNumbers r) → length b ≡ bookSize → (a : ℕ) → (ruleAt b i .csd ≡ a → ⊥)
+      → (r .csd ≡ a → ⊥) → rulesOf a (putRule b i r) ≡ rulesOf a b
   unfolding rulesOf
   rules-still h s a d e =
       lone-still (λ x. x .csd) ruleOf a (ruleAt b) (ruleAt (putRule b i r)) i rulePlaces place (λ k l. rule-other b i r k) d
       (λ q. e (sym (ap (λ x. x .csd) (rule-back b i r h (omega arith))) ∙ q))
 
   -- a record more, at a free place
-  pub rules-added : Hold ruleWidths (ruleNumbers r) → length b ≡ bookSize → (ruleAt b i .csd ≡ r .csd → ⊥) → Same (rulesOf (r .csd) (putRule b i r)) (ruleOf r ∷ rulesOf (r .csd) b)
+  pub rules-added : Hold ruleWidths (ruleNumbers r) → length b ≡ bookSize → (ruleAt b i .csd ≡ r .csd → ⊥)
+      → Same (rulesOf (r .csd) (putRule b i r)) (ruleOf r ∷ rulesOf (r .csd) b)
   unfolding rulesOf
   rules-added h s d =
       let e = rule-back b i r h (omega arith) in
@@ -113,7 +118,8 @@ module _ (b : List ℕ) (i c : ℕ) (t : M.Rule → Bool) (place : i < rulePlace
       zeros-hold = (lit< tt, (lit< tt, (lit< tt, (lit< tt, (lit< tt, (lit< tt, (lit< tt, (lit< tt, tt))))))))
 
   -- a record changed where it stands
-  pub rules-changed : (r : Rule) (g : M.Rule → M.Rule) → Hold ruleWidths (ruleNumbers r) → r .csd ≡ c → ruleOf r ≡ g (ruleOf (ruleAt b i)) → rulesOf c (putRule b i r) ≡ change t g (rulesOf c b)
+  pub rules-changed : (r : Rule) (g : M.Rule → M.Rule) → Hold ruleWidths (ruleNumbers r) → r .csd ≡ c
+      → ruleOf r ≡ g (ruleOf (ruleAt b i)) → rulesOf c (putRule b i r) ≡ change t g (rulesOf c b)
   unfolding rulesOf change
   rules-changed r g h o f =
       let e = rule-back b i r h (omega arith) in
@@ -136,14 +142,16 @@ module _ (b : List ℕ) (i : ℕ) (r : Row) (place : i < rowPlaces) where
   periods-by-row a = lone-same (λ x. x .csd) periodOf a (periodAt b) (periodAt (putRow b i r)) periodPlaces (period-by-row b i r place)
 
   -- a place that stays out of a's hands
-  pub rows-still : length (r .values) ≡ 10 → Hold rowWidths (rowNumbers r) → length b ≡ bookSize → (a : ℕ) → (rowAt b i .csd ≡ a → ⊥) → (r .csd ≡ a → ⊥) → rowsOf a (putRow b i r) ≡ rowsOf a b
+  pub rows-still : length (r .values) ≡ 10 → Hold rowWidths (rowNumbers r) → length b ≡ bookSize → (a : ℕ)
+      → (rowAt b i .csd ≡ a → ⊥) → (r .csd ≡ a → ⊥) → rowsOf a (putRow b i r) ≡ rowsOf a b
   unfolding rowsOf
   rows-still v h s a d e =
       lone-still (λ x. x .csd) rowOf a (rowAt b) (rowAt (putRow b i r)) i rowPlaces place (λ k l. row-other b i r k) d
       (λ q. e (sym (ap (λ x. x .csd) (row-back b i r v h (omega arith))) ∙ q))
 
   -- a record more, at a free place
-  pub rows-added : length (r .values) ≡ 10 → Hold rowWidths (rowNumbers r) → length b ≡ bookSize → (rowAt b i .csd ≡ r .csd → ⊥) → Same (rowsOf (r .csd) (putRow b i r)) (rowOf r ∷ rowsOf (r .csd) b)
+  pub rows-added : length (r .values) ≡ 10 → Hold rowWidths (rowNumbers r) → length b ≡ bookSize
+      → (rowAt b i .csd ≡ r .csd → ⊥) → Same (rowsOf (r .csd) (putRow b i r)) (rowOf r ∷ rowsOf (r .csd) b)
   unfolding rowsOf
   rows-added v h s d =
       let e = row-back b i r v h (omega arith) in
@@ -177,14 +185,16 @@ module _ (b : List ℕ) (i : ℕ) (r : Period) (place : i < periodPlaces) where
   rows-by-period a = lone-same (λ x. x .csd) rowOf a (rowAt b) (rowAt (putPeriod b i r)) rowPlaces (row-by-period b i r place)
 
   -- a place that stays out of a's hands
-  pub periods-still : Hold periodWidths (periodNumbers r) → length b ≡ bookSize → (a : ℕ) → (periodAt b i .csd ≡ a → ⊥) → (r .csd ≡ a → ⊥) → periodsOf a (putPeriod b i r) ≡ periodsOf a b
+  pub periods-still : Hold periodWidths (periodNumbers r) → length b ≡ bookSize → (a : ℕ) → (periodAt b i .csd ≡ a → ⊥)
+      → (r .csd ≡ a → ⊥) → periodsOf a (putPeriod b i r) ≡ periodsOf a b
   unfolding periodsOf
   periods-still h s a d e =
       lone-still (λ x. x .csd) periodOf a (periodAt b) (periodAt (putPeriod b i r)) i periodPlaces place (λ k l. period-other b i r k) d
       (λ q. e (sym (ap (λ x. x .csd) (period-back b i r h (omega arith))) ∙ q))
 
   -- a record more, at a free place
-  pub periods-added : Hold periodWidths (periodNumbers r) → length b ≡ bookSize → (periodAt b i .csd ≡ r .csd → ⊥) → Same (periodsOf (r .csd) (putPeriod b i r)) (periodOf r ∷ periodsOf (r .csd) b)
+  pub periods-added : Hold periodWidths (periodNumbers r) → length b ≡ bookSize → (periodAt b i .csd ≡ r .csd → ⊥)
+      → Same (periodsOf (r .csd) (putPeriod b i r)) (periodOf r ∷ periodsOf (r .csd) b)
   unfolding periodsOf
   periods-added h s d =
       let e = period-back b i r h (omega arith) in
@@ -193,7 +203,8 @@ module _ (b : List ℕ) (i : ℕ) (r : Period) (place : i < periodPlaces) where
 
 module _ (b : List ℕ) (i c : ℕ) (t : M.Period → Bool) (place : i < periodPlaces) (size : length b ≡ bookSize) (own : periodAt b i .csd ≡ c) (hit : t (periodOf (periodAt b i)) ≡ true) (once : count t (periodsOf c b) ≤ 1) where
   -- a record changed where it stands
-  pub periods-changed : (r : Period) (g : M.Period → M.Period) → Hold periodWidths (periodNumbers r) → r .csd ≡ c → periodOf r ≡ g (periodOf (periodAt b i)) → periodsOf c (putPeriod b i r) ≡ change t g (periodsOf c b)
+  pub periods-changed : (r : Period) (g : M.Period → M.Period) → Hold periodWidths (periodNumbers r) → r .csd ≡ c
+      → periodOf r ≡ g (periodOf (periodAt b i)) → periodsOf c (putPeriod b i r) ≡ change t g (periodsOf c b)
   unfolding periodsOf change
   periods-changed r g h o f =
       let e = period-back b i r h (omega arith) in

@@ -13,7 +13,8 @@ use Rattle.owners.proofs.NextPassing.{count-next}
 
 module _ {P : Type 0} (csd : P → ℕ) (at : ℕ → P) (places a i k : ℕ) (e : k ≡ next (λ j. eqb (csd (at j)) a) places i) (l : i ≤ places) where
   module _ (f : P → Bool) (n : ℕ) (c : n ≡ countBelow (λ j. eqb (csd (at j)) a && f (at j)) i) where
-    pub counted-next : (d : ℕ) (t : Bool) → d ≡ bit t → t ≡ (eqb (csd (at k)) a && f (at k)) → n + d ≡ countBelow (λ j. eqb (csd (at j)) a && f (at j)) (k + 1)
+    pub counted-next : (d : ℕ) (t : Bool) → d ≡ bit t → t ≡ (eqb (csd (at k)) a && f (at k))
+        → n + d ≡ countBelow (λ j. eqb (csd (at j)) a && f (at j)) (k + 1)
     counted-next d t x y = rw (count-more (λ j. eqb (csd (at j)) a && f (at j)) k, x, y, count-next csd a at places f i k n e l c)
 
     pub counted-last : k ≡ places → n ≡ countBelow (λ j. eqb (csd (at j)) a && f (at j)) places
@@ -25,10 +26,12 @@ module _ (m places : ℕ) (p : ℕ → Bool) (i : ℕ) where
   before : 0 < i → findBelow m p i ≡ cond (p (i - 1)) (i - 1) (findBelow m p (i - 1))
   before l = let e : i - 1 + 1 ≡ i = omega arith in ap (findBelow m p) (sym e) ∙ find-more m p (i - 1)
 
-  pub found-here : {t : Bool} → t ≡ true → t ≡ p (i - 1) → 0 < i → findBelow m p places ≡ findBelow m p i → i - 1 ≡ findBelow m p places
+  pub found-here : {t : Bool} → t ≡ true → t ≡ p (i - 1) → 0 < i → findBelow m p places ≡ findBelow m p i
+      → i - 1 ≡ findBelow m p places
   found-here e f l g = rw (g, before l, sym f, e)
 
-  pub found-less : {t : Bool} → t ≡ false → t ≡ p (i - 1) → 0 < i → findBelow m p places ≡ findBelow m p i → findBelow m p places ≡ findBelow m p (i - 1)
+  pub found-less : {t : Bool} → t ≡ false → t ≡ p (i - 1) → 0 < i → findBelow m p places ≡ findBelow m p i
+      → findBelow m p places ≡ findBelow m p (i - 1)
   found-less e f l g = rw (g, before l, sym f, e)
 
   pub found-none : i ≡ 0 → findBelow m p places ≡ findBelow m p i → m ≡ findBelow m p places

@@ -82,7 +82,8 @@ free-period : periodZero zeroPeriod ≡ true
 unfolding periodZero allZero every
 free-period = refl
 
-placed-free : {P : Type 0} (csd : P → ℕ) (free : P → Bool) (at : ℕ → P) (n : ℕ) → ((k : ℕ) → free (at k) ≡ true) → placed csd free at n ≡ true
+placed-free : {P : Type 0} (csd : P → ℕ) (free : P → Bool) (at : ℕ → P) (n : ℕ) → ((k : ℕ) → free (at k) ≡ true)
+    → placed csd free at n ≡ true
 unfolding placed
 placed-free csd free at n h = all-put (λ k. free (at k) || within 1 8 (csd (at k))) n (λ k l. rw (h k))
 

@@ -1,4 +1,5 @@
--- What emptying makes of lent bytes (document 01, 'Records'): of the exact size a book of no records; other sizes get 1 and stay. Assumes nothing.
+-- What emptying makes of lent bytes (document 01, 'Records'): of the exact size a book of no records; other sizes get 1
+-- and stay. Assumes nothing.
 use Prim.Native.Nat.{ℕ}
 use mathlib.Core.Bool.{cond}
 use mathlib.Core.List.{List}

@@ -1,4 +1,5 @@
--- The lone book of a depository: what the places that are its say, as the written meaning's four lists. Assumes nothing.
+-- The lone book of a depository: what the places that are its say, as the written meaning's four lists. Assumes
+-- nothing.
 use Prim.Native.Nat.{ℕ}
 use mathlib.Core.List.{List}
 use Rattle.tables.specs.Count.{lone}

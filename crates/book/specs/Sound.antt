@@ -1,5 +1,5 @@
--- When a lent book is sound (document 01, 'Records'): it has the exact size, every place is all zero or a depository's, and each
--- depository's lone book is sound. Assumes nothing.
+-- When a lent book is sound (document 01, 'Records'): it has the exact size, every place is all zero or a depository's,
+-- and each depository's lone book is sound. Assumes nothing.
 use Prim.Native.Nat.{ℕ, _+_}
 use mathlib.Core.List.{List}
 use mathlib.Core.Bool.{Bool, _&&_, _||_}

@@ -78,7 +78,8 @@ pub fn count_types(b: &[u8], a: u8, q: TypeAsk) -> u16
     n
 }
 
-// The last place that holds a type of depository a as asked; PLACES where there is none. A free place is depository 0's.
+// The last place that holds a type of depository a as asked; PLACES where there is none. A free place is depository
+// 0's.
 pub fn find_type(b: &[u8], a: u8, q: TypeAsk) -> u16
     ensures { λ r. ⌜ r ≡ typePlace (now (b .entry)) a q ⌝ }
 {
@@ -119,7 +120,8 @@ pub fn count_rules(b: &[u8], a: u8, q: RuleAsk, w: Row) -> u16
     n
 }
 
-// The last place that holds a rule of depository a as asked; PLACES where there is none. A free place is depository 0's.
+// The last place that holds a rule of depository a as asked; PLACES where there is none. A free place is depository
+// 0's.
 pub fn find_rule(b: &[u8], a: u8, q: RuleAsk, w: Row) -> u16
     ensures { λ r. ⌜ r ≡ rulePlace (now (b .entry)) a q (rowOf w) ⌝ }
 {
@@ -201,7 +203,8 @@ pub fn count_periods(b: &[u8], a: u8, q: PeriodAsk) -> u16
     n
 }
 
-// The last place that holds a period of depository a as asked; PLACES where there is none. A free place is depository 0's.
+// The last place that holds a period of depository a as asked; PLACES where there is none. A free place is depository
+// 0's.
 pub fn find_period(b: &[u8], a: u8, q: PeriodAsk) -> u16
     ensures { λ r. ⌜ r ≡ periodPlace (now (b .entry)) a q ⌝ }
 {

@@ -1,41 +1,30 @@
-// Fills a book through stores, damages it one byte at a time, and writes for each whether it is sound. Depository 1 holds its whole quota;
-// depository 2 holds what can be damaged alone. Last, a book full for all eight.
+// Empties and fills a book through stores, damages it one byte at a time as the lines of standard input say, and writes for each
+// whether it is sound. A line is a table (T types, R rules, M rows, A periods), a place, an offset in it, the byte to stand there
+// and what that is. Depository 1 holds its whole quota; depository 2 holds what can be damaged alone. Last, a book full for all eight.
+use basics::byte_at;
+use basics::low;
+use basics::one_if;
+use basics::wide;
+use libc::STDIN_FILENO;
 use libc::STDOUT_FILENO;
 use places::Period;
 use places::RestrictionType;
 use places::Row;
 use places::Rule;
-use records::one_if;
+use places::SIZE;
 use stores::put_period;
 use stores::put_row;
 use stores::put_rule;
 use stores::put_type;
 
-// Where the tables start (docs/LAYOUT.md).
-const RULES: usize = 1536;
-
-const ROWS: usize = 9216;
-
-const PERIODS: usize = 35840;
-
-fn space() -> [u8; 51200] {
-    [0; 51200]
-}
-
-fn short_space() -> [u8; 51199] {
-    [0; 51199]
-}
-
-fn long_space() -> [u8; 51201] {
-    [0; 51201]
-}
+// ---- What is written.
 
 fn write(text: &[u8]) {
     io::write_all(STDOUT_FILENO, text);
 }
 
-fn say(b: &[u8], what: &[u8]) {
-    if soundness::is_sound(b) {
+fn tell(sound: bool, what: &[u8]) {
+    if sound {
         write(b"sound: ");
     } else {
         write(b"not sound: ");
@@ -44,42 +33,44 @@ fn say(b: &[u8], what: &[u8]) {
     write(b"\n");
 }
 
-fn say_emptied(answer: u8, b: &[u8], what: &[u8]) {
-    io::print_decimal(STDOUT_FILENO, answer as u64);
+fn say(b: &[u8], what: &[u8]) {
+    tell(soundness::is_sound(b), what);
+}
+
+fn empty(b: &mut [u8], what: &[u8]) {
+    io::print_decimal(STDOUT_FILENO, book::empty(b) as u64);
     write(b" ");
     say(b, what);
-}
-
-fn byte(b: &[u8], at: usize) -> u8 {
-    if at < b.len() { b[at] } else { 0 }
-}
-
-fn set(b: &mut [u8], at: usize, v: u8) {
-    if at < b.len() {
-        b[at] = v;
-    }
-}
-
-// Says how the book is with one byte changed, and changes it back.
-fn damaged(b: &mut [u8], at: usize, v: u8, what: &[u8]) {
-    let old = byte(b, at);
-    set(b, at, v);
-    say(b, what);
-    set(b, at, old);
 }
 
 // ---- The records of depository c: 16 types, 4 rules of each, 2 rows of each rule; 128 periods, two to a party, one day apart.
 
 fn own_type(c: u8, i: u8) -> RestrictionType {
-    RestrictionType::new(c, i % 16 + 1, 1, 1, 20200110, 20200120)
+    RestrictionType::new(
+        c,
+        i % 16 + 1,
+        RestrictionType::INSTRUCTION,
+        RestrictionType::REJECTION,
+        20200110,
+        20200120,
+    )
 }
 
 fn own_rule(c: u8, i: u8) -> Rule {
-    Rule::new(c, i / 4 % 16 + 1, 1, i % 4 + 1, 1, 64, 20200229, 20991231)
+    Rule::new(
+        c,
+        i / 4 % 16 + 1,
+        1,
+        i % 4 + 1,
+        Rule::POSITIVE,
+        64,
+        20200229,
+        20991231,
+    )
 }
 
 fn own_row(c: u8, i: u8) -> Row {
-    let code = 101 + (i % 2) as u32;
+    let code = 101 + wide(i % 2);
     Row::new(
         c,
         i / 8 % 16 + 1,
@@ -90,11 +81,11 @@ fn own_row(c: u8, i: u8) -> Row {
 }
 
 fn own_period(c: u8, i: u8) -> Period {
-    let odd = (i % 2) as u32;
+    let odd = wide(i % 2);
     Period::new(
         c,
-        1,
-        (i / 2) as u32 + 1,
+        Period::PARTY,
+        wide(i / 2) + 1,
         101 + odd,
         20200101 + 10 * odd,
         20200110 + 10 * odd,
@@ -113,6 +104,7 @@ fn put_own_rule(b: &mut [u8], c: u8, i: u8, at: u16) {
     }
 }
 
+// Record i of each table at a place, as far as the quotas go.
 fn put_own(b: &mut [u8], c: u8, i: u8, at: u16) {
     put_own_type(b, c, i, at);
     put_own_rule(b, c, i, at);
@@ -120,14 +112,26 @@ fn put_own(b: &mut [u8], c: u8, i: u8, at: u16) {
     put_period(b, at, own_period(c, i));
 }
 
-// Depository 1 at the first places of each table.
-fn fill_one(b: &mut [u8]) {
-    for i in 0..128 {
-        put_own(b, 1, i, i as u16);
+// Place k of each table: of depository 1 at the first 128, or of all eight in turn.
+fn put_place(b: &mut [u8], all: bool, k: u16) {
+    let n = k as u32;
+    if all {
+        put_own(b, low(n % 8 + 1), low(n / 8), k);
+        return;
+    }
+    if k < Row::QUOTA {
+        put_own(b, 1, low(n), k);
     }
 }
 
-// Depository 2 behind it.
+fn fill(b: &mut [u8], all: bool) {
+    for k in 0..Row::PLACES {
+        put_place(b, all, k);
+    }
+}
+
+// Depository 2 behind depository 1.
+
 fn put_two_types(b: &mut [u8]) {
     put_type(b, 16, RestrictionType::new(2, 99, 1, 3, 20200110, 20200120));
     put_type(b, 17, RestrictionType::new(2, 1, 1, 2, 20000101, 20991231));
@@ -141,213 +145,181 @@ fn put_two_rules(b: &mut [u8]) {
 
 // CORP and EUR are their letters in base 256.
 fn put_two_rows(b: &mut [u8]) {
-    put_row(
-        b,
-        128,
-        Row::new(2, 1, 1, 1, [0, 0, 0, 0, 0, 0, 9999, 0, 0, 0]),
-    );
-    put_row(
-        b,
-        129,
-        Row::new(2, 1, 1, 2, [0, 0, 0, 1129271888, 0, 0, 0, 0, 0, 4543826]),
-    );
+    let code = [0, 0, 0, 0, 0, 0, 9999, 0, 0, 0];
+    let words = [0, 0, 0, 1129271888, 0, 0, 0, 0, 0, 4543826];
+    put_row(b, 128, Row::new(2, 1, 1, 1, code));
+    put_row(b, 129, Row::new(2, 1, 1, 2, words));
     put_period(b, 128, Period::new(2, 3, 999999, 9999, 20200229, 20200229));
 }
 
-fn put_two(b: &mut [u8]) {
-    put_two_types(b);
-    put_two_rules(b);
-    put_two_rows(b);
+// ---- Damage.
+
+fn set(b: &mut [u8], at: usize, v: u8) {
+    if at < b.len() {
+        b[at] = v;
+    }
 }
 
-// ---- Damage of each kind.
-
-fn ranges_of_types(b: &mut [u8]) {
-    damaged(b, 0, 9, b"a type of depository 9");
-    damaged(b, 16 * 12, 0, b"a type of no depository");
-    damaged(b, 16 * 12 + 1, 0, b"type 0");
-    damaged(b, 16 * 12 + 1, 100, b"type 100");
-}
-
-fn choices_of_types(b: &mut [u8]) {
-    damaged(b, 16 * 12 + 2, 0, b"object 0");
-    damaged(b, 16 * 12 + 3, 0, b"processing 0");
-    damaged(b, 16 * 12 + 3, 4, b"processing 4");
-    damaged(b, 16 * 12 + 2, 2, b"processing 3 with object 2");
-}
-
-fn dates(b: &mut [u8]) {
-    damaged(b, 16 * 12 + 8, 173, b"first after last by a day");
-    damaged(b, 16 * 12 + 8, 174, b"first on the last day");
-    damaged(b, 4, 164, b"20200100");
-    damaged(b, RULES + 7, 38, b"20200230");
-    damaged(b, 17 * 12 + 7, 0, b"a year before 2000");
-    damaged(b, 17 * 12 + 11, 2, b"a year after 2099");
-}
-
-fn ranges_of_rules(b: &mut [u8]) {
-    damaged(b, RULES + 64 * 15 + 3, 0, b"sequence 0");
-    damaged(b, RULES + 64 * 15 + 3, 100, b"sequence 100");
-    damaged(b, RULES + 64 * 15 + 4, 3, b"sign 3");
-    damaged(b, RULES + 64 * 15 + 5, 0, b"criteria 0");
-    damaged(b, RULES + 64 * 15 + 6, 4, b"criteria 1028");
-    damaged(
-        b,
-        RULES + 64 * 15 + 6,
-        3,
-        b"criteria 772 of a rule without rows",
-    );
-}
-
-fn ranges_of_rows(b: &mut [u8]) {
-    damaged(b, ROWS + 129 * 26 + 7, 48, b"a transaction with a digit");
-    damaged(
-        b,
-        ROWS + 129 * 26 + 10,
-        0,
-        b"a transaction of three letters",
-    );
-    damaged(b, ROWS + 129 * 26 + 23, 91, b"a currency past Z");
-    damaged(b, ROWS + 128 * 26 + 17, 16, b"code 10000");
-    damaged(b, ROWS + 6, 101, b"a payment of 101");
-    damaged(b, ROWS + 1, 0, b"a row of type 0");
-}
-
-fn ranges_of_periods(b: &mut [u8]) {
-    damaged(b, PERIODS + 128 * 15 + 1, 4, b"kind 4");
-    damaged(b, PERIODS + 128 * 15 + 2, 64, b"number 1000000");
-    damaged(b, PERIODS + 2, 0, b"number 0");
-    damaged(b, PERIODS + 5, 100, b"code 100");
-    damaged(b, PERIODS + 128 * 15 + 7, 38, b"20200230 of a period");
-}
-
-fn keys(b: &mut [u8]) {
-    damaged(b, 16 * 12 + 1, 1, b"a type held twice");
-    damaged(b, RULES + 64 * 15 + 3, 1, b"a rule held twice");
-    damaged(b, ROWS + 26 + 17, 101, b"a row held twice");
-    damaged(b, PERIODS + 11, 175, b"periods that share one day");
-    damaged(b, PERIODS + 11, 173, b"periods two days apart");
-}
-
-fn quotas(b: &mut [u8]) {
-    damaged(b, 16 * 12, 1, b"17 types");
-    damaged(b, RULES + 64 * 15, 1, b"65 rules");
-    damaged(b, ROWS + 128 * 26, 1, b"129 rows");
-    damaged(b, PERIODS + 128 * 15, 1, b"129 periods");
-    damaged(b, 16 * 12, 3, b"a type given to depository 3");
-    damaged(b, PERIODS + 128 * 15, 8, b"a period given to depository 8");
-}
-
-fn references(b: &mut [u8]) {
-    damaged(b, RULES + 64 * 15 + 1, 5, b"a rule without its type");
-    damaged(
-        b,
-        RULES + 64 * 15 + 2,
-        2,
-        b"a rule of the other object's type",
-    );
-    damaged(b, ROWS + 128 * 26 + 3, 3, b"a row without its rule");
-    damaged(
-        b,
-        ROWS + 128 * 26,
-        3,
-        b"a row of a depository without rules",
-    );
-}
-
-fn criteria(b: &mut [u8]) {
-    damaged(b, ROWS + 128 * 26 + 4, 1, b"a row with one value more");
-    damaged(
-        b,
-        ROWS + 129 * 26 + 4,
-        1,
-        b"a row with three values for two criteria",
-    );
-    damaged(b, RULES + 65 * 15 + 5, 128, b"as many criteria, but others");
-    damaged(b, RULES + 66 * 15 + 5, 9, b"a rule with one criterion more");
-}
-
-fn free_places(b: &mut [u8]) {
-    damaged(b, 18 * 12 + 11, 1, b"a stray byte in a free type");
-    damaged(b, 18 * 12, 1, b"a free type with a csd");
-    damaged(b, RULES + 511 * 15 + 14, 1, b"a stray byte in a free rule");
-    damaged(b, ROWS + 130 * 26 + 25, 1, b"a stray byte in a free row");
-    damaged(
-        b,
-        ROWS + 1023 * 26 + 4,
-        255,
-        b"a stray party type in a free row",
-    );
-    damaged(b, 51199, 128, b"a stray byte in the last free period");
-}
-
-fn sound_with(b: &mut [u8], at: usize, v: u8) -> bool {
-    let old = byte(b, at);
-    set(b, at, v);
+// Whether the book is sound with the byte at an offset from an address changed, which is changed back.
+fn sound_with(b: &mut [u8], at: u32, offset: u32, v: u8) -> bool {
+    let i = at as usize + offset as usize;
+    let old = byte_at(b, i);
+    set(b, i, v);
     let sound = soundness::is_sound(b);
-    set(b, at, old);
+    set(b, i, old);
     sound
 }
 
 // How many books are sound that have 255 at one address, of every 101st.
 fn each_101st(b: &mut [u8]) -> u16 {
     let mut n: u16 = 0;
-    for i in 0..507usize {
-        n += one_if(sound_with(b, i * 101, 255));
+    for i in 0..507u32 {
+        n += one_if(sound_with(b, i * 101, 0, 255));
     }
     n
 }
 
-fn each_table(b: &mut [u8]) {
-    ranges_of_types(b);
-    choices_of_types(b);
-    dates(b);
-    ranges_of_rules(b);
-    ranges_of_rows(b);
-    ranges_of_periods(b);
-}
-
-fn together(b: &mut [u8]) {
-    keys(b);
-    quotas(b);
-    references(b);
-    criteria(b);
-    free_places(b);
-}
-
-// Every depository's whole quota, mixed place by place.
-fn fill_all(b: &mut [u8]) {
-    for k in 0..1024 {
-        put_own(b, (k % 8) as u8 + 1, (k / 8) as u8, k);
+fn address(table: u8, place: u16) -> u32 {
+    match table {
+        b'T' => places::address(RestrictionType::START, RestrictionType::WIDTH, place),
+        b'R' => places::address(Rule::START, Rule::WIDTH, place),
+        b'M' => places::address(Row::START, Row::WIDTH, place),
+        _ => places::address(Period::START, Period::WIDTH, place),
     }
 }
 
-fn many(b: &mut [u8]) {
+// ---- Lines.
+
+// What has been read of a line: the table, and a number for each field, of which the table's own is 0; where its text starts.
+struct Line {
+    table: u8,
+    field: usize,
+    numbers: [u32; 4],
+    from: usize,
+}
+
+fn begun() -> Line {
+    Line {
+        table: 0,
+        field: 0,
+        numbers: [0; 4],
+        from: 0,
+    }
+}
+
+// A number with one digit more, as far as a place needs.
+fn with_digit(n: u32, digit: u8) -> u32 {
+    n % 10000 * 10 + wide(digit)
+}
+
+// The line with one byte more, that at i: of its fields a comma, a digit or the table.
+fn with_byte(line: Line, byte: u8, i: usize) -> Line {
+    let mut numbers = line.numbers;
+    let field = line.field;
+    if field > 3 {
+        return line;
+    }
+    if byte == b',' {
+        return Line {
+            table: line.table,
+            field: field + 1,
+            numbers,
+            from: i % SIZE + 1,
+        };
+    }
+    if byte > b'9' {
+        return Line {
+            table: byte,
+            field,
+            numbers,
+            from: line.from,
+        };
+    }
+    numbers[field] = with_digit(numbers[field], byte % 16);
+    Line {
+        table: line.table,
+        field,
+        numbers,
+        from: line.from,
+    }
+}
+
+fn damaged(b: &mut [u8], line: Line, what: &[u8]) {
+    let n = line.numbers;
+    let at = address(line.table, (n[1] % 65536) as u16);
+    tell(sound_with(b, at, n[2], low(n[3])), what);
+}
+
+// The line that ends at i.
+fn ended(b: &mut [u8], text: &[u8], line: Line, i: usize) {
+    let from = line.from;
+    if i < from {
+        return;
+    }
+    if i < text.len() {
+        damaged(b, line, &text[from..i]);
+    }
+}
+
+fn fed(b: &mut [u8], text: &[u8], line: Line, i: usize) -> Line {
+    let byte = byte_at(text, i);
+    if byte == b'\n' {
+        ended(b, text, line, i);
+        return begun();
+    }
+    with_byte(line, byte, i)
+}
+
+fn each_line(b: &mut [u8], text: &[u8]) {
+    let mut line = begun();
+    for i in 0..text.len() {
+        line = fed(b, text, line, i);
+    }
+}
+
+// ---- The run.
+
+fn space() -> [u8; SIZE] {
+    [0; SIZE]
+}
+
+fn short_space() -> [u8; SIZE - 1] {
+    [0; SIZE - 1]
+}
+
+fn long_space() -> [u8; SIZE + 1] {
+    [0; SIZE + 1]
+}
+
+fn one_and_two(b: &mut [u8]) {
+    empty(b, b"emptied");
+    fill(b, false);
+    say(b, b"depository 1's whole quota");
+    put_two_types(b);
+    put_two_rules(b);
+    put_two_rows(b);
+    say(b, b"with records of depository 2");
+}
+
+fn all_eight(b: &mut [u8]) {
     io::print_decimal(STDOUT_FILENO, each_101st(b) as u64);
     write(b" sound with 255 at an address of 507\n");
     say(b, b"as before");
-    say_emptied(book::empty(b), b, b"emptied again");
-    fill_all(b);
+    empty(b, b"emptied again");
+    fill(b, true);
     say(b, b"full for all eight");
-    damaged(b, 0, 2, b"a type of depository 1 given to 2");
-}
-
-fn run(b: &mut [u8]) {
-    say_emptied(book::empty(b), b, b"emptied");
-    fill_one(b);
-    say(b, b"depository 1's whole quota");
-    put_two(b);
-    say(b, b"with records of depository 2");
-    each_table(b);
-    together(b);
-    many(b);
+    tell(sound_with(b, 0, 0, 2), b"a type of depository 1 given to 2");
 }
 
 fn main() {
+    let mut text = io::large_buffer();
+    let n = io::read_full(STDIN_FILENO, &mut text);
     let mut exact = space();
-    run(&mut exact);
+    one_and_two(&mut exact);
+    each_line(&mut exact, &text[..n]);
+    all_eight(&mut exact);
     let mut short = short_space();
-    say_emptied(book::empty(&mut short), &short, b"a byte too short");
+    empty(&mut short, b"a byte too short");
     let mut long = long_space();
-    say_emptied(book::empty(&mut long), &long, b"a byte too long");
+    empty(&mut long, b"a byte too long");
 }

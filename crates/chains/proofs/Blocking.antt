@@ -38,25 +38,29 @@ pub zero-none : (b : List ℕ) (from : ℕ) → eqb 0 0 ≡ zeroFrom b from 0
 unfolding zeroFrom
 zero-none b from = sym (all-none _)
 
-pub zero-more : (b : List ℕ) (from j x x′ : ℕ) → x′ ≡ cond (ltb x (getD b (from + j) 0)) (getD b (from + j) 0) x → eqb x 0 ≡ zeroFrom b from j → eqb x′ 0 ≡ zeroFrom b from (j + 1)
+pub zero-more : (b : List ℕ) (from j x x′ : ℕ) → x′ ≡ cond (ltb x (getD b (from + j) 0)) (getD b (from + j) 0) x
+    → eqb x 0 ≡ zeroFrom b from j → eqb x′ 0 ≡ zeroFrom b from (j + 1)
 unfolding zeroFrom
 zero-more b from j x x′ e f =
     rw (all-more, ← f) (ap (λ z. eqb z 0) e ∙ greater-zero x (getD b (from + j) 0))
 
 -- ---- what `block_free` leaves to show
 
-pub block-past : (b : List ℕ) (i start width at : ℕ) → length b < at + blockPlaces * width → at ≡ start + i * width → false ≡ blockFree b i start width
+pub block-past : (b : List ℕ) (i start width at : ℕ) → length b < at + blockPlaces * width → at ≡ start + i * width
+    → false ≡ blockFree b i start width
 unfolding blockFree
 block-past b i start width at l e = rw (← e, lt-leb (at + blockPlaces * width) (length b) l)
 
-pub block-in : (b : List ℕ) (i start width at : ℕ) (r : Bool) → r ≡ zeroFrom b at (blockPlaces * width) → at + blockPlaces * width ≤ length b → at ≡ start + i * width → r ≡ blockFree b i start width
+pub block-in : (b : List ℕ) (i start width at : ℕ) (r : Bool) → r ≡ zeroFrom b at (blockPlaces * width)
+    → at + blockPlaces * width ≤ length b → at ≡ start + i * width → r ≡ blockFree b i start width
 unfolding blockFree
 block-in b i start width at r h l e = rw (← e, le-leb (at + blockPlaces * width) (length b) l) h
 
 -- ---- the places
 
 -- A place whose bytes are all 0 reads as one of a book of zeros.
-pub zero-numbers : (ws : List Width) (b : List ℕ) (from n at : ℕ) → zeroFrom b from n ≡ true → from ≤ at → at + total ws ≤ from + n → numbers ws b at 0 ≡ numbers ws (zeros 0) at 0
+pub zero-numbers : (ws : List Width) (b : List ℕ) (from n at : ℕ) → zeroFrom b from n ≡ true → from ≤ at
+    → at + total ws ≤ from + n → numbers ws b at 0 ≡ numbers ws (zeros 0) at 0
 unfolding zeroFrom
 zero-numbers ws b from n at e l h = numbers-same ws (zeros 0) b at 0 (λ k low high. here k low high)
   where
@@ -71,7 +75,9 @@ module _ (csd bucket : ℕ → ℕ) (size places : ℕ) (free rest : ℕ → Boo
   unfolding right
   free-right k z = rw z
 
-  going-over : (i m : ℕ) → Going csd bucket size places (right csd free rest p q) i counts head next → i + m ≤ places → ((k : ℕ) → i ≤ k → k < i + m → free k ≡ true) → Going csd bucket size places (right csd free rest p q) (i + m) counts head next
+  going-over : (i m : ℕ) → Going csd bucket size places (right csd free rest p q) i counts head next → i + m ≤ places
+      → ((k : ℕ) → i ≤ k → k < i + m → free k ≡ true)
+      → Going csd bucket size places (right csd free rest p q) (i + m) counts head next
   going-over i zero g l f = let e : i + 0 ≡ i = omega arith in rw e g
   going-over i (suc m) g l f =
       let r = going-over i m g (omega arith) (λ k low high. f k low (omega arith)) in
@@ -85,5 +91,7 @@ module _ (csd bucket : ℕ → ℕ) (size places : ℕ) (free rest : ℕ → Boo
         chained = chained-free csd bucket size places head next (i + m) (r .chained) (nobody (i + m) z);
       })
 
-  pub block-over : (i : ℕ) → Going csd bucket size places (right csd free rest p q) i counts head next → i + blockPlaces ≤ places → ((k : ℕ) → i ≤ k → k < i + blockPlaces → free k ≡ true) → Block csd bucket size places (right csd free rest p q) i true counts head next
+  pub block-over : (i : ℕ) → Going csd bucket size places (right csd free rest p q) i counts head next
+      → i + blockPlaces ≤ places → ((k : ℕ) → i ≤ k → k < i + blockPlaces → free k ≡ true)
+      → Block csd bucket size places (right csd free rest p q) i true counts head next
   block-over i g l f = record { going = λ y. going-over i blockPlaces g l f; fails = λ y. absurd (false≢true (sym y)) }

@@ -18,18 +18,22 @@ use Rattle.chains.proofs.Chaining.{chain-any, chained-none, chained-fre
 
 -- What the test of a place leaves to show, by its calls.
 
-pub right-by : (fit held : Bool) (q c m : ℕ) (counts : List ℕ) (w o x y r : Bool) → r ≡ (w && y) → y ≡ (fit && x) → x ≡ (o && ltb m q) → o ≡ not held → w ≡ within 1 8 c → m ≡ getD counts c 0 → r ≡ rightBy fit held q c counts
+pub right-by : (fit held : Bool) (q c m : ℕ) (counts : List ℕ) (w o x y r : Bool) → r ≡ (w && y) → y ≡ (fit && x)
+    → x ≡ (o && ltb m q) → o ≡ not held → w ≡ within 1 8 c → m ≡ getD counts c 0 → r ≡ rightBy fit held q c counts
 unfolding rightBy
 right-by fit held q c m counts w o x y r er ey ex eo ew em = rw (er, ey, ex, eo, ew, em)
 
-pub judged : (fit fit′ held held′ r : Bool) (q c : ℕ) (counts : List ℕ) → r ≡ rightBy fit held q c counts → fit ≡ fit′ → held ≡ held′ → r ≡ rightBy fit′ held′ q c counts
+pub judged : (fit fit′ held held′ r : Bool) (q c : ℕ) (counts : List ℕ) → r ≡ rightBy fit held q c counts → fit ≡ fit′
+    → held ≡ held′ → r ≡ rightBy fit′ held′ q c counts
 judged fit fit′ held held′ r q c counts e f h = rw (e, f, h)
 
-pub judged-both : (f f′ g g′ fit held held′ r : Bool) (q c : ℕ) (counts : List ℕ) → r ≡ rightBy fit held q c counts → fit ≡ (f && g) → f ≡ f′ → held ≡ held′ → g ≡ g′ → r ≡ rightBy (f′ && g′) held′ q c counts
+pub judged-both : (f f′ g g′ fit held held′ r : Bool) (q c : ℕ) (counts : List ℕ) → r ≡ rightBy fit held q c counts
+    → fit ≡ (f && g) → f ≡ f′ → held ≡ held′ → g ≡ g′ → r ≡ rightBy (f′ && g′) held′ q c counts
 judged-both f f′ g g′ fit held held′ r q c counts e i j h k = rw (e, i, j, h, k)
 
 module _ (csd bucket : ℕ → ℕ) (size places : ℕ) (free rest : ℕ → Bool) (p : ℕ → ℕ → Bool) (q : ℕ) where
-  pub passed-free : (i : ℕ) (r : Bool) (counts head next : List ℕ) → Ready csd bucket size places i counts head next → csd i ≡ 0 → r ≡ free i → Passed csd bucket size places (right csd free rest p q) i r counts head next
+  pub passed-free : (i : ℕ) (r : Bool) (counts head next : List ℕ) → Ready csd bucket size places i counts head next
+      → csd i ≡ 0 → r ≡ free i → Passed csd bucket size places (right csd free rest p q) i r counts head next
   unfolding right
   passed-free i r counts head next m e f = record {
     answered = rw e (f ∙ sym (or-false (free i)));
@@ -38,7 +42,11 @@ module _ (csd bucket : ℕ → ℕ) (size places : ℕ) (free rest : ℕ → Boo
   }
 
   module _ (nobody : (k : ℕ) → free k ≡ true → csd k ≡ 0) (inside : (k : ℕ) → csd k ≤ 8 → bucket k < size) (only : (k j : ℕ) → p k j ≡ true → (csd j ≡ csd k) × (bucket j ≡ bucket k)) (few : places < 65535) where
-    pub passed-used : (i c k : ℕ) (fit held r : Bool) (counts head next counts′ head′ next′ : List ℕ) → Ready csd bucket size places i counts head next → Entered c k i counts head next counts′ head′ next′ → (csd i ≡ 0 → ⊥) → c ≡ csd i → k ≡ bucket i → r ≡ rightBy fit held q c counts → held ≡ chainHas next (p i) places (getD head (bucket i) 0) → (c ≤ 8 → fit ≡ rest i) → Passed csd bucket size places (right csd free rest p q) i r counts′ head′ next′
+    pub passed-used : (i c k : ℕ) (fit held r : Bool) (counts head next counts′ head′ next′ : List ℕ)
+        → Ready csd bucket size places i counts head next → Entered c k i counts head next counts′ head′ next′
+        → (csd i ≡ 0 → ⊥) → c ≡ csd i → k ≡ bucket i → r ≡ rightBy fit held q c counts
+        → held ≡ chainHas next (p i) places (getD head (bucket i) 0) → (c ≤ 8 → fit ≡ rest i)
+        → Passed csd bucket size places (right csd free rest p q) i r counts′ head′ next′
     unfolding right rightBy
     passed-used i c k fit held r counts head next counts′ head′ next′ m e u ec ek er eh ef = record {
       answered =
@@ -71,7 +79,8 @@ module _ (csd bucket : ℕ → ℕ) (size places : ℕ) (free rest : ℕ → Boo
 -- ---- the loop
 
 module _ (csd bucket : ℕ → ℕ) (size places : ℕ) (good : ℕ → Bool) where
-  pub going-none : (counts head next : List ℕ) → Unchained size places head next → Blank owners counts → Going csd bucket size places good 0 counts head next
+  pub going-none : (counts head next : List ℕ) → Unchained size places head next → Blank owners counts
+      → Going csd bucket size places good 0 counts head next
   going-none counts head next u z = record {
     few = omega arith;
     all = all-none good;
@@ -79,10 +88,14 @@ module _ (csd bucket : ℕ → ℕ) (size places : ℕ) (good : ℕ → Bool) wh
     chained = chained-none csd bucket size places head next u;
   }
 
-  pub going-ready : (i : ℕ) (counts head next : List ℕ) → Going csd bucket size places good i counts head next → i < places → Ready csd bucket size places i counts head next
+  pub going-ready : (i : ℕ) (counts head next : List ℕ) → Going csd bucket size places good i counts head next
+      → i < places → Ready csd bucket size places i counts head next
   going-ready i counts head next g l = record { place = l; counted = g .counted; chained = g .chained }
 
-  pub going-on : (i : ℕ) (r x : Bool) (counts head next counts′ head′ next′ : List ℕ) → Passed csd bucket size places good i r counts′ head′ next′ → x ≡ not r → x ≡ false → i < places → Going csd bucket size places good i counts head next → Going csd bucket size places good (i + 1) counts′ head′ next′
+  pub going-on : (i : ℕ) (r x : Bool) (counts head next counts′ head′ next′ : List ℕ)
+      → Passed csd bucket size places good i r counts′ head′ next′ → x ≡ not r → x ≡ false → i < places
+      → Going csd bucket size places good i counts head next
+      → Going csd bucket size places good (i + 1) counts′ head′ next′
   going-on i r x counts head next counts′ head′ next′ m e f l g =
       let y : r ≡ true = not-false r (sym e ∙ f) in
       record {
@@ -94,7 +107,9 @@ module _ (csd bucket : ℕ → ℕ) (size places : ℕ) (good : ℕ → Bool) wh
 
   -- one place of sixteen fails, or all are passed
 
-  pub block-fails : (from i : ℕ) (r x : Bool) (counts′ head′ next′ : List ℕ) → Passed csd bucket size places good i r counts′ head′ next′ → x ≡ not r → x ≡ true → i < from + blockPlaces → from + blockPlaces ≤ places → Block csd bucket size places good from false counts′ head′ next′
+  pub block-fails : (from i : ℕ) (r x : Bool) (counts′ head′ next′ : List ℕ)
+      → Passed csd bucket size places good i r counts′ head′ next′ → x ≡ not r → x ≡ true → i < from + blockPlaces
+      → from + blockPlaces ≤ places → Block csd bucket size places good from false counts′ head′ next′
   block-fails from i r x counts′ head′ next′ m e f l h =
       let y : r ≡ false = not-true r (sym e ∙ f) in
       record {
@@ -102,19 +117,25 @@ module _ (csd bucket : ℕ → ℕ) (size places : ℕ) (good : ℕ → Bool) wh
         fails = λ t. cases (allBelow good places) (λ u. absurd (false≢true (sym y ∙ m .answered ∙ all-at good places u i (omega arith)))) (λ u. u);
       }
 
-  pub block-end : (from i : ℕ) (counts head next : List ℕ) → Going csd bucket size places good i counts head next → i ≡ from + blockPlaces → Block csd bucket size places good from true counts head next
+  pub block-end : (from i : ℕ) (counts head next : List ℕ) → Going csd bucket size places good i counts head next
+      → i ≡ from + blockPlaces → Block csd bucket size places good from true counts head next
   block-end from i counts head next g e = record { going = λ y. rw e at g; fails = λ y. absurd (false≢true (sym y)) }
 
   -- the loop over blocks
 
-  pub blocks-on : (i : ℕ) (r x : Bool) (counts head next : List ℕ) → Block csd bucket size places good i r counts head next → x ≡ not r → x ≡ false → Going csd bucket size places good (i + blockPlaces) counts head next
+  pub blocks-on : (i : ℕ) (r x : Bool) (counts head next : List ℕ)
+      → Block csd bucket size places good i r counts head next → x ≡ not r → x ≡ false
+      → Going csd bucket size places good (i + blockPlaces) counts head next
   blocks-on i r x counts head next m e f = m .going (not-false r (sym e ∙ f))
 
-  pub blocks-fail : (i : ℕ) (r x : Bool) (counts head next : List ℕ) → Block csd bucket size places good i r counts head next → x ≡ not r → x ≡ true → AllPassed csd bucket size places good false head next
+  pub blocks-fail : (i : ℕ) (r x : Bool) (counts head next : List ℕ)
+      → Block csd bucket size places good i r counts head next → x ≡ not r → x ≡ true
+      → AllPassed csd bucket size places good false head next
   blocks-fail i r x counts head next m e f =
       record { answered = sym (m .fails (not-true r (sym e ∙ f))); chained = λ t. absurd (false≢true t) }
 
-  pub going-end : (i : ℕ) (counts head next : List ℕ) → Going csd bucket size places good i counts head next → places ≤ i → AllPassed csd bucket size places good true head next
+  pub going-end : (i : ℕ) (counts head next : List ℕ) → Going csd bucket size places good i counts head next
+      → places ≤ i → AllPassed csd bucket size places good true head next
   going-end i counts head next g l =
       let e : i ≡ places = omega (arith, g .few) in
       record { answered = sym (rw e at (g .all)); chained = λ y. rw e at (g .chained) }

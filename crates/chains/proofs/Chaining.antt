@@ -1,5 +1,5 @@
--- Laws of chains over any table, bucket and test: before the first place, one place more, and that a chain has a place as asked exactly if one of the
--- places before has.
+-- Laws of chains over any table, bucket and test: before the first place, one place more, and that a chain has a place
+-- as asked exactly if one of the places before has.
 use Prim.Native.Nat.{ℕ, zero, suc, _+_, _-_, _≤_, _<_, _%_, _^_}
 use mathlib.Core.Path.{_≡_, refl, ap, sym, _∙_}
 use mathlib.Core.Bool.{Bool, true, false, _||_, not, cond, false≢true}
@@ -28,7 +28,8 @@ unfolding chainHas
 chain-end next p zero k e = refl
 chain-end next p (suc n) k e = rw e
 
-chain-on : (next : List ℕ) (p : ℕ → Bool) (n k : ℕ) → 1 ≤ n → 1 ≤ k → chainHas next p n k ≡ (p (k - 1) || chainHas next p (n - 1) (getD next (k - 1) 0))
+chain-on : (next : List ℕ) (p : ℕ → Bool) (n k : ℕ) → 1 ≤ n → 1 ≤ k
+    → chainHas next p n k ≡ (p (k - 1) || chainHas next p (n - 1) (getD next (k - 1) 0))
 unfolding chainHas
 chain-on next p zero k l h = absurd (omega arith)
 chain-on next p (suc n) zero l h = absurd (omega arith)
@@ -48,16 +49,19 @@ module _ (next : List ℕ) (p : ℕ → Bool) (n start : ℕ) where
   unfolding chainHas
   walk-over s k w l = let e : n - s ≡ 0 = omega arith in rw e at (w .left)
 
-  on : (s k : ℕ) → Walking next p n start s k → s < n → (k ≡ 0 → ⊥) → (p (k - 1) || chainHas next p (n - (s + 1)) (getD next (k - 1) 0)) ≡ chainHas next p n start
+  on : (s k : ℕ) → Walking next p n start s k → s < n → (k ≡ 0 → ⊥)
+      → (p (k - 1) || chainHas next p (n - (s + 1)) (getD next (k - 1) 0)) ≡ chainHas next p n start
   on s k w l h =
       let u : 1 ≤ k = cases-eq k 0 (λ z. absurd (h z)) (λ z. omega (arith, z)) in
       let e : n - s - 1 ≡ n - (s + 1) = omega arith in
       sym (ap (λ x. p (k - 1) || chainHas next p x (getD next (k - 1) 0)) e) ∙ sym (chain-on next p (n - s) k (omega arith) u) ∙ w .left
 
-  pub walk-found : (s k : ℕ) (r : Bool) → Walking next p n start s k → s < n → r ≡ p (k - 1) → r ≡ true → (k ≡ 0 → ⊥) → true ≡ chainHas next p n start
+  pub walk-found : (s k : ℕ) (r : Bool) → Walking next p n start s k → s < n → r ≡ p (k - 1) → r ≡ true → (k ≡ 0 → ⊥)
+      → true ≡ chainHas next p n start
   walk-found s k r w l e f h = rw (sym e ∙ f) at (on s k w l h)
 
-  pub walk-on : (s k k′ : ℕ) (r : Bool) → k′ ≡ getD next (k - 1) 0 → Walking next p n start s k → s < n → r ≡ p (k - 1) → r ≡ false → (k ≡ 0 → ⊥) → Walking next p n start (s + 1) k′
+  pub walk-on : (s k k′ : ℕ) (r : Bool) → k′ ≡ getD next (k - 1) 0 → Walking next p n start s k → s < n → r ≡ p (k - 1)
+      → r ≡ false → (k ≡ 0 → ⊥) → Walking next p n start (s + 1) k′
   walk-on s k k′ r g w l e f h = record { steps = omega arith; left = rw g (rw (sym e ∙ f) at (on s k w l h)) }
 
 -- ---- one place more
@@ -73,7 +77,8 @@ module _ (csd bucket : ℕ → ℕ) (size places : ℕ) where
   }
 
   -- A free place is in no chain.
-  pub chained-free : (head next : List ℕ) (i : ℕ) → Chained csd bucket size places head next i → csd i ≡ 0 → Chained csd bucket size places head next (i + 1)
+  pub chained-free : (head next : List ℕ) (i : ℕ) → Chained csd bucket size places head next i → csd i ≡ 0
+      → Chained csd bucket size places head next (i + 1)
   chained-free head next i m e = record {
     heads = m .heads;
     nexts = m .nexts;
@@ -81,7 +86,9 @@ module _ (csd bucket : ℕ → ℕ) (size places : ℕ) where
     follows = λ j l h. cases-eq j i (λ z. absurd (h (ap csd z ∙ e))) (λ z. m .follows j (omega arith) h);
   }
 
-  pub chained-more : (counts counts′ head head′ next next′ : List ℕ) (c k i : ℕ) → Chained csd bucket size places head next i → Entered c k i counts head next counts′ head′ next′ → i < places → i < 65535 → (csd i ≡ 0 → ⊥) → k ≡ bucket i → k < size → Chained csd bucket size places head′ next′ (i + 1)
+  pub chained-more : (counts counts′ head head′ next next′ : List ℕ) (c k i : ℕ)
+      → Chained csd bucket size places head next i → Entered c k i counts head next counts′ head′ next′ → i < places
+      → i < 65535 → (csd i ≡ 0 → ⊥) → k ≡ bucket i → k < size → Chained csd bucket size places head′ next′ (i + 1)
   chained-more counts counts′ head head′ next next′ c k i m e l few u z s = record {
     heads = rw (e .headed, length-set) (m .heads);
     nexts = rw (e .linked, length-set) (m .nexts);
@@ -95,7 +102,8 @@ module _ (csd bucket : ℕ → ℕ) (size places : ℕ) where
         (λ g. rw (e .linked) (getD-set-other next i j (getD head k 0) 0 g ∙ m .follows j (omega arith) f));
   }
 
-  -- The chain of a bucket has a place as asked exactly if one of the places before has, where only places of the bucket are asked for.
+  -- The chain of a bucket has a place as asked exactly if one of the places before has, where only places of the bucket
+  -- are asked for.
   module _ (head next : List ℕ) (i : ℕ) (m : Chained csd bucket size places head next i) (p : ℕ → Bool) (k : ℕ) (only : (j : ℕ) → p j ≡ true → inBucket csd bucket k j ≡ true) where
     chain-from : (n f : ℕ) → n ≤ i → n ≤ f → chainHas next p f (lastBelow (inBucket csd bucket k) n) ≡ anyBelow p n
     unfolding lastBelow anyBelow chainHas
@@ -121,7 +129,9 @@ module _ (csd bucket : ℕ → ℕ) (size places : ℕ) where
     chain-any l h = rw (m .starts k l) (chain-from i places (omega arith) h)
 
   -- The chains of the whole table, asked for a place of depository c and the bucket k.
-  pub table-any : (head next : List ℕ) → Chained csd bucket size places head next places → (p : ℕ → Bool) (c k : ℕ) → (c ≡ 0 → ⊥) → ((j : ℕ) → p j ≡ true → (csd j ≡ c) × (bucket j ≡ k)) → k < size → chainHas next p places (getD head k 0) ≡ anyBelow p places
+  pub table-any : (head next : List ℕ) → Chained csd bucket size places head next places → (p : ℕ → Bool) (c k : ℕ)
+      → (c ≡ 0 → ⊥) → ((j : ℕ) → p j ≡ true → (csd j ≡ c) × (bucket j ≡ k)) → k < size
+      → chainHas next p places (getD head k 0) ≡ anyBelow p places
   table-any head next m p c k u only l =
       chain-any head next places m p k
       (λ j y. let o = only j y in rw (ne-eqb (csd j) 0 (λ z. u (sym (o .0) ∙ z))) (eq-eqb (bucket j) k (o .1))) l (omega arith)
@@ -132,13 +142,15 @@ pub counted-none : (csd : ℕ → ℕ) (counts : List ℕ) → Blank owners coun
 unfolding countBelow
 counted-none csd counts u = record { long = u .long; each = λ a l h. u .each a (omega arith) }
 
-pub counted-free : (csd : ℕ → ℕ) (counts : List ℕ) (i : ℕ) → Counted csd counts i → csd i ≡ 0 → Counted csd counts (i + 1)
+pub counted-free : (csd : ℕ → ℕ) (counts : List ℕ) (i : ℕ) → Counted csd counts i → csd i ≡ 0
+    → Counted csd counts (i + 1)
 counted-free csd counts i m e = record {
   long = m .long;
   each = λ a l h. rw (count-more, ne-eqb (csd i) a (λ z. omega (arith, e))) (omega (arith, m .each a l h));
 }
 
-pub counted-more : (csd : ℕ → ℕ) (counts counts′ head head′ next next′ : List ℕ) (c k i : ℕ) → Counted csd counts i → Entered c k i counts head next counts′ head′ next′ → i < 65535 → c ≡ csd i → c ≤ 8 → Counted csd counts′ (i + 1)
+pub counted-more : (csd : ℕ → ℕ) (counts counts′ head head′ next next′ : List ℕ) (c k i : ℕ) → Counted csd counts i
+    → Entered c k i counts head next counts′ head′ next′ → i < 65535 → c ≡ csd i → c ≤ 8 → Counted csd counts′ (i + 1)
 counted-more csd counts counts′ head head′ next next′ c k i m e l s u = record {
   long = rw (e .counted, length-set) (m .long);
   each = λ a h g.
@@ -153,7 +165,9 @@ counted-more csd counts counts′ head head′ next next′ c k i m e l s u = re
 }
 
 -- What `enter` leaves to show, by its calls.
-pub entered : (c k i n m h j : ℕ) (counts head next counts′ head′ next′ : List ℕ) → head′ ≡ set head k j → j ≡ (i + 1) % 2 ^ 16 → next′ ≡ set next i h → h ≡ getD head k 0 → counts′ ≡ set counts c m → m ≡ (n + 1) % 2 ^ 16 → n ≡ getD counts c 0 → Entered c k i counts head next counts′ head′ next′
+pub entered : (c k i n m h j : ℕ) (counts head next counts′ head′ next′ : List ℕ) → head′ ≡ set head k j
+    → j ≡ (i + 1) % 2 ^ 16 → next′ ≡ set next i h → h ≡ getD head k 0 → counts′ ≡ set counts c m → m ≡ (n + 1) % 2 ^ 16
+    → n ≡ getD counts c 0 → Entered c k i counts head next counts′ head′ next′
 entered c k i n m h j counts head next counts′ head′ next′ eh ej en e ec f g = record {
   counted = ec ∙ ap (set counts c) (f ∙ ap (λ x. (x + 1) % 65536) g);
   headed = eh ∙ ap (set head k) ej;
@@ -161,5 +175,6 @@ entered c k i n m h j counts head next counts′ head′ next′ eh ej en e ec f
 }
 
 -- What a walk of the chain of a bucket finds.
-pub held-in : (next head : List ℕ) (p : ℕ → Bool) (n k k′ : ℕ) (r : Bool) → r ≡ chainHas next p n (getD head k 0) → k ≡ k′ → r ≡ chainHas next p n (getD head k′ 0)
+pub held-in : (next head : List ℕ) (p : ℕ → Bool) (n k k′ : ℕ) (r : Bool) → r ≡ chainHas next p n (getD head k 0)
+    → k ≡ k′ → r ≡ chainHas next p n (getD head k′ 0)
 held-in next head p n k k′ r e f = rw (e, f)

@@ -69,7 +69,8 @@ module _ (csd : ℕ → ℕ) (free rest : ℕ → Bool) (p : ℕ → ℕ → Boo
 
     module _ (all : (k : ℕ) → k < n → right csd free rest p q k ≡ true) where
       -- what is known of a place that is a depository's
-      before : (k : ℕ) → k < n → free k ≡ false → (within 1 8 (csd k) && (rest k && (not (anyBelow (p k) k) && ltb (countBelow (same k) k) q))) ≡ true
+      before : (k : ℕ) → k < n → free k ≡ false
+          → (within 1 8 (csd k) && (rest k && (not (anyBelow (p k) k) && ltb (countBelow (same k) k) q))) ≡ true
       unfolding right
       before k l f = rw f at (all k l)
 

@@ -1,5 +1,5 @@
--- Places of a table in chains: a place is compared only with those before it that have its bucket, a number computed from its record. A
--- chain names a place by its number plus 1; 0 is the end. Assumes nothing.
+-- Places of a table in chains: a place is compared only with those before it that have its bucket, a number computed
+-- from its record. A chain names a place by its number plus 1; 0 is the end. Assumes nothing.
 use Prim.Native.Nat.{ℕ, zero, suc, _+_, _-_, _≤_, _<_, _%_}
 use mathlib.Core.Path.{_≡_}
 use mathlib.Core.Bool.{Bool, true, false, _&&_, _||_, not, cond}
@@ -34,7 +34,8 @@ pub record Counted (csd : ℕ → ℕ) (counts : List ℕ) (i : ℕ) : Type 0 wh
   pub long : length counts ≡ owners
   pub each : (a : ℕ) → 1 ≤ a → a ≤ 8 → getD counts a 0 ≡ countBelow (λ k. eqb (csd k) a) i
 
--- the used places below i in chains, the last first: head has the start of each bucket's chain, next what follows a place
+-- the used places below i in chains, the last first: head has the start of each bucket's chain, next what follows a
+-- place
 pub record Chained (csd bucket : ℕ → ℕ) (size places : ℕ) (head next : List ℕ) (i : ℕ) : Type 0 where
   pub heads : length head ≡ size
   pub nexts : length next ≡ places
@@ -54,7 +55,8 @@ pub record Entered (c k i : ℕ) (counts head next counts′ head′ next′ : L
 
 -- ---- a place of a table, judged by those before it
 
--- free says whether a place is all zero, rest what else is asked of its record, p k what no place before k may be; q is the quota
+-- free says whether a place is all zero, rest what else is asked of its record, p k what no place before k may be; q is
+-- the quota
 module _ (csd : ℕ → ℕ) (free rest : ℕ → Bool) (p : ℕ → ℕ → Bool) (q : ℕ) where
   unfoldable pub right : ℕ → Bool
   right k =

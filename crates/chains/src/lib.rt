@@ -159,7 +159,8 @@ pub fn block_free(b: &[u8], i: u16, start: u16, width: u8) -> bool
 
 // ---- One place.
 
-// Whether a place is a depository's whose quota is not reached, with a record that is as it must be by itself and not held before.
+// Whether a place is a depository's whose quota is not reached, with a record that is as it must be by itself and not
+// held before.
 pub fn right(csd: u8, fit: bool, held: bool, counts: &[u16], quota: u16) -> bool
     ensures { λ r. ⌜ r ≡ rightBy fit held quota csd (now (counts .entry)) ⌝ }
 {

@@ -57,7 +57,8 @@ known line =
 
 -- ---- a line that is read
 
--- The letter and the numbers that the meaning reads, in the ranges of a row of the table; the sixteen values are the numbers, and ask what they ask.
+-- The letter and the numbers that the meaning reads, in the ranges of a row of the table. The sixteen values are the
+-- numbers and zeros after them, and ask what the numbers ask.
 pub record Asked (line : List ℕ) (r : Line) : Type 0 where
   pub letter : Letter
   pub numbers : List ℕ

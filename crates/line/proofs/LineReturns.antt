@@ -6,7 +6,6 @@ use mathlib.Core.List.{List}
 use lib.Dec.{ltb}
 use lib.ListN.{getD}
 use Rattle.tables.specs.Count.{every}
-use Rattle.meaning.specs.Fields.{isDigit}
 use Rattle.meaning.specs.Forms.{isNumber}
 use Rattle.line.specs.Values.{ofClass}
 

@@ -1,9 +1,8 @@
 -- A row of numbers with zeros after them reads as the numbers do.
-use Prim.Native.Nat.{ℕ, zero, suc, _<_}
+use Prim.Native.Nat.{ℕ, zero, suc}
 use mathlib.Core.Path.{_≡_, refl, ap, sym, _∙_}
 use mathlib.Core.List.{List, [], _∷_}
-use native.Mathlib.Omega.{arith}
-use lib.ListN.{length, getD, replicate, set}
+use lib.ListN.{getD, replicate, set}
 use lib.Seq.{sets}
 use Rattle.meaning.specs.Forms.{
   Letter,

@@ -1,7 +1,8 @@
--- The rows of the table of shapes: the code finds the row that the meaning's `firstShape` gives, and whether any row has a letter.
-use Prim.Native.Nat.{ℕ, zero, suc, _+_, _≤_, _<_}
-use mathlib.Core.Path.{_≡_, refl, ap, sym, _∙_}
-use mathlib.Core.Bool.{Bool, true, false, cond, _&&_, _||_, and-true}
+-- The rows of the table of shapes: the code finds the row that the meaning's `firstShape` gives, and whether any row
+-- has a letter.
+use Prim.Native.Nat.{ℕ, _+_, _≤_, _<_}
+use mathlib.Core.Path.{_≡_, refl, sym, _∙_}
+use mathlib.Core.Bool.{Bool, true, false, _&&_, and-true}
 use mathlib.Core.List.{List, [], _∷_, map}
 use mathlib.Core.Option.{some, none}
 use native.Mathlib.Numerals.{add-one}
@@ -15,7 +16,7 @@ use Rattle.tables.proofs.Counts.{cases, both}
 use Rattle.tables.proofs.Lists.{has-cons}
 use Rattle.tables.proofs.Entries.{map-entry, every-entry}
 use Rattle.meaning.specs.Text.{same}
-use Rattle.meaning.specs.Forms.{letterText, Shape, shapeQ, shapes, hasLetter, hasLength, firstShape}
+use Rattle.meaning.specs.Forms.{letterText, Shape, shapeQ, shapes, hasLetter, firstShape}
 use Rattle.line.specs.Table.{rows, shapeAt, atRow, formsAt, letterByte, asShape, firstRow, Counted}
 use Rattle.line.proofs.Loops.{same-length}
 

@@ -1,5 +1,5 @@
 -- A line of the code as the meaning reads it. Assumes nothing.
-use Prim.Native.Nat.{ℕ, zero, suc}
+use Prim.Native.Nat.{ℕ}
 use mathlib.Core.Bool.{cond}
 use mathlib.Core.List.{List, [], _∷_}
 use mathlib.Core.Option.{Option, some, none}

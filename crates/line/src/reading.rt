@@ -214,8 +214,8 @@ fn read_values(line: &[u8], shape: u8, start: usize) -> Values
 
 // ---- a line
 
-// A line as it is read: the refusal, 0 for none; the letter, as its byte; the numbers of the fields after it, and zeros after them.
-// A refused line has zeros there.
+// A line as it is read: the refusal, 0 for none; the letter, as its byte; the numbers of the fields after it, and zeros
+// after them. A refused line has zeros there.
 pub struct Line {
     pub refusal: u8,
     pub letter: u8,

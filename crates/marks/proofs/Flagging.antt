@@ -76,7 +76,8 @@ pub flagged-by : (t : List ℕ) (k x : ℕ) (r : Bool) → r ≡ flag (k % 4) x 
 unfolding flagged
 flagged-by t k x r e f = e ∙ ap (flag (k % 4)) f
 
-pub stored-flag : (t t′ : List ℕ) (k x y : ℕ) (on : Bool) → t′ ≡ set t (k / 4) y → y ≡ withFlag (k % 4) x → x ≡ getD t (k / 4) 0 → on ≡ true → t′ ≡ cond on (set t (k / 4) (withFlag (k % 4) (getD t (k / 4) 0))) t
+pub stored-flag : (t t′ : List ℕ) (k x y : ℕ) (on : Bool) → t′ ≡ set t (k / 4) y → y ≡ withFlag (k % 4) x
+    → x ≡ getD t (k / 4) 0 → on ≡ true → t′ ≡ cond on (set t (k / 4) (withFlag (k % 4) (getD t (k / 4) 0))) t
 stored-flag t t′ k x y on et ey ex eo = rw eo (et ∙ rw (ey, ex))
 
 pub kept-flags : (t u : List ℕ) (on : Bool) → on ≡ false → t ≡ cond on u t
@@ -84,7 +85,9 @@ kept-flags t u on e = rw e
 
 -- What one place leaves: c is read first. If it is a, x is read; k is its key and v whether it is on.
 module _ {P : Type 0} (csd : P → ℕ) (a : ℕ) (key : P → ℕ) (on : P → Bool) where
-  pub flag-own : (y x : P) (t t′ : List ℕ) (c k : ℕ) (v : Bool) → t′ ≡ cond v (set t (k / 4) (withFlag (k % 4) (getD t (k / 4) 0))) t → v ≡ on x → k ≡ key x → x ≡ y → c ≡ csd y → c ≡ a → t′ ≡ afterFlag csd a key on y t
+  pub flag-own : (y x : P) (t t′ : List ℕ) (c k : ℕ) (v : Bool)
+      → t′ ≡ cond v (set t (k / 4) (withFlag (k % 4) (getD t (k / 4) 0))) t → v ≡ on x → k ≡ key x → x ≡ y → c ≡ csd y
+      → c ≡ a → t′ ≡ afterFlag csd a key on y t
   unfolding afterFlag
   flag-own y x t t′ c k v et ev ek ex ec eo = rw (eq-eqb (csd y) a (sym ec ∙ eo)) (et ∙ rw (ev, ek, ex))
 
@@ -105,7 +108,8 @@ key-parts k m =
     (λ e. rw (ne-eqb (m / 4) (k / 4) e) (ne-eqb m k (λ z. e (ap (λ y. y / 4) z))))
 
 -- One place more, of key m, that is the depository's or not (c) and on or not (o).
-flag-more : (c o : Bool) (k m x : ℕ) (r : Bool) → flag (k % 4) x ≡ r → flag (k % 4) (cond (c && (o && eqb (m / 4) (k / 4))) (withFlag (m % 4) x) x) ≡ ((c && (o && eqb m k)) || r)
+flag-more : (c o : Bool) (k m x : ℕ) (r : Bool) → flag (k % 4) x ≡ r
+    → flag (k % 4) (cond (c && (o && eqb (m / 4) (k / 4))) (withFlag (m % 4) x) x) ≡ ((c && (o && eqb m k)) || r)
 flag-more true true k m x r h =
     rw (key-parts k m)
     (cases (eqb (m / 4) (k / 4))
@@ -116,7 +120,9 @@ flag-more false o k m x r h = h
 
 module _ {P : Type 0} (size : ℕ) (csd : P → ℕ) (a : ℕ) (at : ℕ → P) (key : P → ℕ) (on : P → Bool) where
   -- Flag k % 4 of the entry at k / 4 tells whether a place hits the key k.
-  entry-flag : (k n : ℕ) → flag (k % 4) (entry csd a at (λ p. key p / 4) on (λ p m. withFlag (key p % 4) m) (k / 4) n) ≡ anyBelow (hits csd a at key on k) n
+  entry-flag : (k n : ℕ)
+      → flag (k % 4) (entry csd a at (λ p. key p / 4) on (λ p m. withFlag (key p % 4) m) (k / 4) n)
+      ≡ anyBelow (hits csd a at key on k) n
   unfolding entry anyBelow
   entry-flag k zero = flag-none (k % 4)
   entry-flag k (suc n) =
@@ -125,7 +131,9 @@ module _ {P : Type 0} (size : ℕ) (csd : P → ℕ) (a : ℕ) (at : ℕ → P) 
       (anyBelow (hits csd a at key on k) n) (entry-flag k n)
 
   -- After the last place, the table has the flags of the keys that are hit.
-  pub keyed-flags : (t : List ℕ) (i n all : ℕ) → Keyed size csd a at (λ p. key p / 4) on (λ p m. withFlag (key p % 4) m) t i → i ≡ n → all ≡ size * 4 → flagged t ≡ keys csd a at key on all n
+  pub keyed-flags : (t : List ℕ) (i n all : ℕ)
+      → Keyed size csd a at (λ p. key p / 4) on (λ p m. withFlag (key p % 4) m) t i → i ≡ n → all ≡ size * 4
+      → flagged t ≡ keys csd a at key on all n
   unfolding flagged keys
   keyed-flags t i n all m e s =
       fun-ext (λ k.

@@ -1,4 +1,5 @@
-// Tables of numbers that are addressed by key: marks, one to an entry, and flags, four to an entry, so that fewer bytes are cleared. Past its end a table has neither.
+// Tables of numbers that are addressed by key: marks, one to an entry, and flags, four to an entry, so that fewer bytes
+// are cleared. Past its end a table has neither.
 ghost use Prim.Native.Nat.{_/_, _%_};
 ghost use mathlib.Core.Path.{_≡_};
 ghost use mathlib.Core.Bool.{cond};
@@ -6,6 +7,7 @@ ghost use lib.ListN.{length, set, getD};
 ghost use Rattle.tables.specs.Bytes.{zeros};
 ghost use Rattle.tables.specs.Keyed.{marked};
 ghost use Rattle.marks.specs.Flags.{weight, flag, withFlag, flagged};
+use basics::byte_at;
 
 // Makes every entry 0.
 pub fn clear(b: &mut [u8])
@@ -21,13 +23,13 @@ pub fn clear(b: &mut [u8])
 pub fn look(t: &[u8], k: usize) -> u8
     ensures { λ r. ⌜ r ≡ getD (now (t .entry)) k 0 ⌝ }
 {
-    if k < t.len() { t[k] } else { 0 }
+    byte_at(t, k)
 }
 
 pub fn is_marked(t: &[u8], k: usize) -> bool
     ensures { λ r. ⌜ r ≡ marked (now (t .entry)) k ⌝ }
 {
-    look(t, k) == 1
+    byte_at(t, k) == 1
 }
 
 // Stores a number at a key, if asked to, and nothing past the end.
@@ -80,7 +82,7 @@ fn with_flag(x: u8, k: usize) -> u8
 pub fn is_flagged(t: &[u8], k: usize) -> bool
     ensures { λ r. ⌜ r ≡ flagged (now (t .entry)) k ⌝ }
 {
-    has_flag(look(t, k / 4), k)
+    has_flag(byte_at(t, k / 4), k)
 }
 
 // Stores the flag of a key, if asked to, and nothing past the end.
@@ -88,7 +90,7 @@ pub fn store_flag(t: &mut [u8], k: usize, on: bool)
     ensures { λ _. ⌜ now (t .exit) ≡ cond on (set (now (t .entry)) (k / 4) (withFlag (k % 4) (getD (now (t .entry)) (k / 4) 0))) (now (t .entry)) ⌝ }
 {
     if on {
-        let entry = look(t, k / 4);
+        let entry = byte_at(t, k / 4);
         store(t, k / 4, true, with_flag(entry, k));
     }
 }

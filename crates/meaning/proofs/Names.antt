@@ -1,16 +1,16 @@
 -- Which depository a line names, and that a line which is read names the depository of its csd field.
 use Prim.Native.Nat.{ℕ, _+_, _*_, _-_, _≤_}
-use mathlib.Core.Path.{_≡_, refl, ap, sym, _∙_}
-use mathlib.Core.Bool.{Bool, true, false, _&&_, and-true, and-false, false≢true}
+use mathlib.Core.Path.{_≡_, refl, ap}
+use mathlib.Core.Bool.{Bool, true, false, _&&_, false≢true}
 use mathlib.Core.List.{List, [], _∷_, foldl}
 use mathlib.Core.Option.{some}
 use native.Mathlib.Omega.{arith}
 use lib.Dec.{eqb, leb, ltb}
 use lib.ListN.{getD}
-use borrow.Author.Tests.{eqb-true, eq-eqb, leb-true, le-leb, ltb-true}
+use borrow.Author.Tests.{eqb-true, leb-true, le-leb, ltb-true}
 use Rattle.tables.specs.Count.{every}
 use Rattle.tables.proofs.Counts.{both, ands}
-use Rattle.meaning.specs.Text.{same, decimal}
+use Rattle.meaning.specs.Text.{decimal}
 use Rattle.meaning.specs.Fields.{within, fields}
 use Rattle.meaning.specs.Forms.{Form, upTo, code, day, letters, oneOf, optional, holds, holdsAll, isNumber, read, Letter, Shape, shapes, csdForm}
 use Rattle.meaning.specs.Records.{_!_}

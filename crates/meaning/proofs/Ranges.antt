@@ -101,11 +101,11 @@ holds-at (φ ∷ φs) (n ∷ ns) e (suc i) l = holds-at φs ns (both (holds φ n
 not-after : (a b : ℕ) → ltb b a ≡ false → leb a b ≡ true
 not-after a b e = le-leb a b (ltb-false b a e)
 
--- by a row's forms
+-- numbers that a row's forms hold make a command that fits, unless it is wrong
 abbrev Fits : List ℕ → Shape → Type 0
 Fits v s = holdsAll (s .forms) v ≡ true → wrong (commandOf (s .letter) v) ≡ false → fits (commandOf (s .letter) v) ≡ true
 
--- Numbers in their forms' ranges give a command that fits, unless refusal 5 says more.
+-- So do the numbers of any line, row by row.
 pub command-fits : (l : Letter) (v : List ℕ) → Ranged l v → wrong (commandOf l v) ≡ false → fits (commandOf l v) ≡ true
 unfolding shapes commandOf wrong fits typeFits ruleFits rowFits periodFits keyFits daysFit
 command-fits l v r =
@@ -173,7 +173,8 @@ command-fits l v r =
 no-reading : {G : Type 0} (n : ℕ) (l : Letter) (v : List ℕ) → refused n ≡ asks l v → G
 no-reading n l v e = absurd (let z : _≡_ {A = ℕ} 0 1 = cc in omega arith)
 
--- What a line that is read has: a first field, which is the letter of a row of the table, and fields after it that give its numbers by the row's forms.
+-- What a line that is read has: a first field, which is the letter of a row of the table, and fields after it that give
+-- its numbers by the row's forms.
 pub record Parts (line : List ℕ) (l : Letter) (v : List ℕ) : Type 0 where
   pub head : List ℕ
   pub rest : List (List ℕ)

@@ -1,15 +1,15 @@
--- A row of a table, and what holds of each row: a test computed over the table, or a fact given row by row. Laws over any list, and what the table of
--- shapes gives of numbers that are read.
+-- A row of a table, and what holds of each row: a test computed over the table, or a fact given row by row. These are
+-- laws over any list; then what the table of shapes gives of numbers that are read.
 use Prim.Native.Nat.{ℕ}
-use mathlib.Core.Path.{_≡_, refl, ap, sym}
-use mathlib.Core.Bool.{Bool, true, _&&_}
+use mathlib.Core.Path.{_≡_}
+use mathlib.Core.Bool.{Bool, true}
 use mathlib.Core.List.{List, [], _∷_}
 use mathlib.Core.Logic.{_⊎_, inl, inr, ⊎-elim}
-use mathlib.Core.Option.{Option, some, none}
+use mathlib.Core.Option.{some}
 use native.Mathlib.Omega.{arith}
 use Rattle.tables.specs.Count.{every}
 use Rattle.tables.proofs.Counts.{cases, both}
-use Rattle.meaning.specs.Forms.{Form, Letter, Shape, shapes, firstShape, holdsAll}
+use Rattle.meaning.specs.Forms.{Letter, Shape, shapes, firstShape, holdsAll}
 
 module _ {R : Type 0} where
   -- x is one of the list

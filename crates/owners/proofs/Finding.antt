@@ -109,7 +109,8 @@ seven j w l = let a : j ≤ 7 = omega arith in let b : w ≤ w = omega arith in 
 
 -- ---- what `eight_passed` leaves to show
 
-pub eight-passed : (b : List ℕ) (start width a i at r : ℕ) → r ≡ firstFrom (λ j. eqb (byteAt b (at + j * width)) a) 0 8 → at ≡ start + i * width → (r ≤ 8) × Passed (owned b start width a) i (i + r)
+pub eight-passed : (b : List ℕ) (start width a i at r : ℕ) → r ≡ firstFrom (λ j. eqb (byteAt b (at + j * width)) a) 0 8
+    → at ≡ start + i * width → (r ≤ 8) × Passed (owned b start width a) i (i + r)
 eight-passed b start width a i at r e f = (
   omega (arith, e, first-high p 0 8),
   λ k low high.

@@ -12,7 +12,8 @@ unfoldable pub firstFrom : (ℕ → Bool) → ℕ → ℕ → ℕ
 firstFrom p i zero = i
 firstFrom p i (suc n) = cond (p i) i (firstFrom p (i + 1) n)
 
--- the first place from place i on where p holds, of a table of that many places; the number of places where there is none
+-- the first place from place i on where p holds, of a table of that many places; the number of places where there is
+-- none
 unfoldable pub next : (ℕ → Bool) → ℕ → ℕ → ℕ
 next p places i = cond (leb i places) (firstFrom p i (places - i)) places
 

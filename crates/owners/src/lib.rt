@@ -1,4 +1,5 @@
-// Which place of each table is a depository's next. The places of others, and the free ones, are passed by their first byte, eight at once.
+// Which place of each table is a depository's next. The places of others, and the free ones, are passed by their first
+// byte, eight at once.
 ghost use mathlib.Core.Path.{_≡_};
 ghost use Prim.Native.Nat.{_+_, _*_, _<_, _≤_};
 ghost use lib.Dec.{eqb};
@@ -36,7 +37,8 @@ fn eight_passed(b: &[u8], i: u16, start: u16, width: u8, a: u8) -> u16
     0
 }
 
-// A place from i on, up to which no place is depository a's: it is the first that is, or fewer than eight are left, or the book ends.
+// A place from i on, up to which no place is depository a's: it is the first that is, or fewer than eight are left, or
+// the book ends.
 fn pass(b: &[u8], i: u16, start: u16, width: u8, places: u16, a: u8) -> u16
     ensures { λ r. ⌜ (i ≤ r) × Passed (owned (now (b .entry)) start width a) i r ⌝ }
 {

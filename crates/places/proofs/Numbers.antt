@@ -22,8 +22,10 @@ module _ (b : List ℕ) (at j : ℕ) {r : ℕ} where
   pub two-inside : r ≡ getD b (at + j) 0 + 256 * getD b (at + j + 1) 0 → r ≡ number two b at j
   two-inside e = rw (next at j 1) e
 
-  pub three-inside : r ≡ getD b (at + j) 0 + 256 * getD b (at + j + 1) 0 + 65536 * getD b (at + j + 2) 0 → r ≡ number three b at j
+  pub three-inside : r ≡ getD b (at + j) 0 + 256 * getD b (at + j + 1) 0 + 65536 * getD b (at + j + 2) 0
+      → r ≡ number three b at j
   three-inside e = rw (next at j 1, next at j 2) e
 
-  pub four-inside : r ≡ getD b (at + j) 0 + 256 * getD b (at + j + 1) 0 + 65536 * getD b (at + j + 2) 0 + 16777216 * getD b (at + j + 3) 0 → r ≡ number four b at j
+  pub four-inside : r ≡ getD b (at + j) 0 + 256 * getD b (at + j + 1) 0 + 65536 * getD b (at + j + 2) 0 + 16777216 * getD b (at + j + 3) 0
+      → r ≡ number four b at j
   four-inside e = rw (next at j 1, next at j 2, next at j 3) e

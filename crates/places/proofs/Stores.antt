@@ -1,5 +1,5 @@
--- THE STORES: that place reads back as the record, every other place and every other table reads as before, the length stays.
--- Written by tools/places.py.
+-- THE STORES: that place reads back as the record, every other place and every other table reads as before, the length
+-- stays. Written by tools/places.py.
 use Prim.Native.Nat.{ℕ, _+_, _≤_, _<_}
 use mathlib.Core.Path.{_≡_, refl, ap, _∙_}
 use mathlib.Core.List.{List, [], _∷_}
@@ -17,7 +17,9 @@ use Rattle.places.specs.declared.Row.{Row}
 use Rattle.places.specs.declared.Period.{Period}
 
 -- the ten values of a row
-pub ten : (v : List ℕ) → length v ≡ 10 → getD v 0 0 ∷ getD v 1 0 ∷ getD v 2 0 ∷ getD v 3 0 ∷ getD v 4 0 ∷ getD v 5 0 ∷ getD v 6 0 ∷ getD v 7 0 ∷ getD v 8 0 ∷ getD v 9 0 ∷ [] ≡ v
+pub ten : (v : List ℕ) → length v ≡ 10
+    → getD v 0 0 ∷ getD v 1 0 ∷ getD v 2 0 ∷ getD v 3 0 ∷ getD v 4 0 ∷ getD v 5 0 ∷ getD v 6 0 ∷ getD v 7 0 ∷ getD v 8 0 ∷ getD v 9 0 ∷ []
+    ≡ v
 ten ([]) e = absurd (omega arith)
 ten (x0 ∷ []) e = absurd (omega arith)
 ten (x0 ∷ x1 ∷ []) e = absurd (omega arith)
@@ -117,7 +119,8 @@ module _ (b : List ℕ) (i : ℕ) (r : Row) where
   unfolding digits bytesOf
   row-bytes = refl
 
-  pub row-back : length (r .values) ≡ 10 → Hold rowWidths (rowNumbers r) → rowStart i + rowWidth ≤ length b → rowAt (putRow b i r) i ≡ r
+  pub row-back : length (r .values) ≡ 10 → Hold rowWidths (rowNumbers r) → rowStart i + rowWidth ≤ length b
+      → rowAt (putRow b i r) i ≡ r
   unfolding rowAt putRow
   row-back len h fits = ap rowFrom (numbers-put rowWidths (rowNumbers r) b (rowStart i) 0 h fits) ∙ (λ k. record { csd = r .csd; number = r .number; object = r .object; sequence = r .sequence; values = ten (r .values) len k })
 
@@ -154,7 +157,8 @@ module _ (b : List ℕ) (i : ℕ) (r : Period) where
   unfolding digits bytesOf
   period-bytes = refl
 
-  pub period-back : Hold periodWidths (periodNumbers r) → periodStart i + periodWidth ≤ length b → periodAt (putPeriod b i r) i ≡ r
+  pub period-back : Hold periodWidths (periodNumbers r) → periodStart i + periodWidth ≤ length b
+      → periodAt (putPeriod b i r) i ≡ r
   unfolding periodAt putPeriod
   period-back h fits = ap periodFrom (numbers-put periodWidths (periodNumbers r) b (periodStart i) 0 h fits)
 

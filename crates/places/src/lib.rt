@@ -1,17 +1,16 @@
 // The records of the book by value, and their reading at a place. Written by tools/places.py.
 ghost use mathlib.Core.Path.{_≡_};
-ghost use Prim.Native.Nat.{_+_, _*_, _≤_};
+ghost use Prim.Native.Nat.{_+_, _*_};
 ghost use Rattle.tables.specs.Bytes.{byteAt, one, two, three, four, number};
 ghost use Rattle.places.specs.Layout.{typeAt, zeroType, ruleAt, zeroRule, rowAt, zeroRow, periodAt, zeroPeriod};
 use basics::wide;
 
-// The book's exact size in bytes (docs/typeAt, zeroType, ruleAt, zeroRule, rowAt, zeroRow, periodAt, zeroPeriod.md).
+// The book's exact size in bytes (docs/LAYOUT.md).
 pub const SIZE: usize = 51200;
 
 // The address of place i of a table that starts at an address and has places of a width.
 pub fn address(start: u16, width: u8, i: u16) -> u32
     ensures { λ r. ⌜ r ≡ start + i * width ⌝ }
-    ensures { λ r. ⌜ r ≤ 16776960 ⌝ }
 {
     start as u32 + i as u32 * width as u32
 }
@@ -351,7 +350,7 @@ pub fn row_at(b: &[u8], i: u16) -> Row
     }
 }
 
-// An attribute period: the days on which a party, an account or a security hasCode a code.
+// An attribute period: the days on which a party, an account or a security has a code.
 pub struct Period {
     pub csd: u8,
     pub kind: u8,

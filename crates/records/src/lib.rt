@@ -180,7 +180,7 @@ pub fn rule_meets(t: Rule, q: RuleAsk, w: Row) -> bool
 pub fn first_difference(a: [u32; 10], b: [u32; 10]) -> u8
     ensures { λ r. ⌜ r ≡ firstDifference a b ⌝ }
 {
-    for i in 0..10 {
+    for i in 0..10u8 {
         let k = i as usize;
         if a[k] != b[k] {
             return i;

@@ -31,7 +31,8 @@ module _ (b : List ℕ) where
   unfolding periodCsd periodChain
   inside k l = omega arith
 
-  pub period-only : (k j : ℕ) → periodSame b k j ≡ true → (periodCsd b j ≡ periodCsd b k) × (periodChain b j ≡ periodChain b k)
+  pub period-only : (k j : ℕ) → periodSame b k j ≡ true
+      → (periodCsd b j ≡ periodCsd b k) × (periodChain b j ≡ periodChain b k)
   unfolding periodCsd periodChain periodSame periodHit periodMeets clash periodOf
   period-only k j e =
       let x = eqb-true (periodAt b j .csd) (periodAt b k .csd) (search ands) in
@@ -40,13 +41,19 @@ module _ (b : List ℕ) where
       let w = eqb-true (periodAt b j .code / 100) (periodAt b k .code / 100) (search ands) in
       (x, rw (x, y, z, w))
 
-  pub period-free : (i : ℕ) (t : Period) (r : Bool) (counts head next : List ℕ) → r ≡ periodZero t → t .csd ≡ 0 → t ≡ periodAt b i → Ready (periodCsd b) (periodChain b) periodHeads periodPlaces i counts head next → Passed (periodCsd b) (periodChain b) periodHeads periodPlaces (periodRight b) i r counts head next
+  pub period-free : (i : ℕ) (t : Period) (r : Bool) (counts head next : List ℕ) → r ≡ periodZero t → t .csd ≡ 0
+      → t ≡ periodAt b i → Ready (periodCsd b) (periodChain b) periodHeads periodPlaces i counts head next
+      → Passed (periodCsd b) (periodChain b) periodHeads periodPlaces (periodRight b) i r counts head next
   unfolding periodCsd periodRight
   period-free i t r counts head next er z e m =
       passed-free (periodCsd b) (periodChain b) periodHeads periodPlaces (λ k. periodZero (periodAt b k)) (periodRest b) (periodSame b) periodQuota i r counts head next m
       (ap (λ x. x .csd) (sym e) ∙ z) (er ∙ ap periodZero e)
 
-  pub period-used : (i k : ℕ) (t : Period) (r : Bool) (counts head next counts′ head′ next′ : List ℕ) → Entered (t .csd) k i counts head next counts′ head′ next′ → k ≡ periodBucket t → r ≡ rightBy (periodFits (periodOf t)) (periodHeld b t head next) periodQuota (t .csd) counts → t ≡ periodAt b i → Ready (periodCsd b) (periodChain b) periodHeads periodPlaces i counts head next → (t .csd ≡ 0 → ⊥) → Passed (periodCsd b) (periodChain b) periodHeads periodPlaces (periodRight b) i r counts′ head′ next′
+  pub period-used : (i k : ℕ) (t : Period) (r : Bool) (counts head next counts′ head′ next′ : List ℕ)
+      → Entered (t .csd) k i counts head next counts′ head′ next′ → k ≡ periodBucket t
+      → r ≡ rightBy (periodFits (periodOf t)) (periodHeld b t head next) periodQuota (t .csd) counts → t ≡ periodAt b i
+      → Ready (periodCsd b) (periodChain b) periodHeads periodPlaces i counts head next → (t .csd ≡ 0 → ⊥)
+      → Passed (periodCsd b) (periodChain b) periodHeads periodPlaces (periodRight b) i r counts′ head′ next′
   unfolding periodHeld periodCsd periodChain periodSame periodRest periodRight
   period-used i k t r counts head next counts′ head′ next′ n ek er e m u =
       passed-used (periodCsd b) (periodChain b) periodHeads periodPlaces (λ k. periodZero (periodAt b k)) (periodRest b) (periodSame b) periodQuota
@@ -56,7 +63,10 @@ module _ (b : List ℕ) where
       (λ l. ap (λ x. periodFits (periodOf x)) e)
 
   -- Sixteen places whose bytes are all 0 are free.
-  pub period-over : (i : ℕ) (r : Bool) (counts head next : List ℕ) → r ≡ blockFree b i periodBase periodWidth → r ≡ true → i + blockPlaces ≤ periodPlaces → Going (periodCsd b) (periodChain b) periodHeads periodPlaces (periodRight b) i counts head next → Block (periodCsd b) (periodChain b) periodHeads periodPlaces (periodRight b) i true counts head next
+  pub period-over : (i : ℕ) (r : Bool) (counts head next : List ℕ) → r ≡ blockFree b i periodBase periodWidth → r ≡ true
+      → i + blockPlaces ≤ periodPlaces
+      → Going (periodCsd b) (periodChain b) periodHeads periodPlaces (periodRight b) i counts head next
+      → Block (periodCsd b) (periodChain b) periodHeads periodPlaces (periodRight b) i true counts head next
   unfolding blockFree periodAt periodZero allZero every periodCsd periodRight
   period-over i r counts head next e f l g =
       let t = sym e ∙ f in

@@ -45,13 +45,20 @@ module _ (b : List ℕ) where
       let v = sym (same-numbers (rowAt b k .values) (rowAt b j .values) (search ands)) in
       (x, rw (x, y, z, w, v))
 
-  pub row-free : (i : ℕ) (t : Row) (r : Bool) (counts head next : List ℕ) → r ≡ rowZero t → t .csd ≡ 0 → t ≡ rowAt b i → Ready (rowCsd b) (rowChain b) rowHeads rowPlaces i counts head next → Passed (rowCsd b) (rowChain b) rowHeads rowPlaces (rowRight b) i r counts head next
+  pub row-free : (i : ℕ) (t : Row) (r : Bool) (counts head next : List ℕ) → r ≡ rowZero t → t .csd ≡ 0 → t ≡ rowAt b i
+      → Ready (rowCsd b) (rowChain b) rowHeads rowPlaces i counts head next
+      → Passed (rowCsd b) (rowChain b) rowHeads rowPlaces (rowRight b) i r counts head next
   unfolding rowCsd rowRight
   row-free i t r counts head next er z e m =
       passed-free (rowCsd b) (rowChain b) rowHeads rowPlaces (λ k. rowZero (rowAt b k)) (rowRest b) (rowSame b) rowQuota i r counts head next m
       (ap (λ x. x .csd) (sym e) ∙ z) (er ∙ ap rowZero e)
 
-  pub row-used : (i k : ℕ) (t : Row) (r : Bool) (starts links counts head next counts′ head′ next′ : List ℕ) → Entered (t .csd) k i counts head next counts′ head′ next′ → k ≡ rowBucket t → r ≡ rightBy (rowFits (rowOf t) && ruleFilled b t starts links) (rowHeld b t head next) rowQuota (t .csd) counts → t ≡ rowAt b i → Ready (rowCsd b) (rowChain b) rowHeads rowPlaces i counts head next → Chained (ruleCsd b) (ruleChain b) ruleHeads rulePlaces starts links rulePlaces → (t .csd ≡ 0 → ⊥) → Passed (rowCsd b) (rowChain b) rowHeads rowPlaces (rowRight b) i r counts′ head′ next′
+  pub row-used : (i k : ℕ) (t : Row) (r : Bool) (starts links counts head next counts′ head′ next′ : List ℕ)
+      → Entered (t .csd) k i counts head next counts′ head′ next′ → k ≡ rowBucket t
+      → r ≡ rightBy (rowFits (rowOf t) && ruleFilled b t starts links) (rowHeld b t head next) rowQuota (t .csd) counts
+      → t ≡ rowAt b i → Ready (rowCsd b) (rowChain b) rowHeads rowPlaces i counts head next
+      → Chained (ruleCsd b) (ruleChain b) ruleHeads rulePlaces starts links rulePlaces → (t .csd ≡ 0 → ⊥)
+      → Passed (rowCsd b) (rowChain b) rowHeads rowPlaces (rowRight b) i r counts′ head′ next′
   unfolding rowHeld rowCsd rowChain rowSame rowRest rowRight
   row-used i k t r starts links counts head next counts′ head′ next′ n ek er e m ru u =
       passed-used (rowCsd b) (rowChain b) rowHeads rowPlaces (λ k. rowZero (rowAt b k)) (rowRest b) (rowSame b) rowQuota
@@ -63,7 +70,9 @@ module _ (b : List ℕ) where
       ∙ ap (λ x. rowFits (rowOf x) && anyBelow (ruleHit b (x .csd) Rules.Fills (rowOf x)) rulePlaces) e)
 
   -- Sixteen places whose bytes are all 0 are free.
-  pub row-over : (i : ℕ) (r : Bool) (counts head next : List ℕ) → r ≡ blockFree b i rowBase rowWidth → r ≡ true → i + blockPlaces ≤ rowPlaces → Going (rowCsd b) (rowChain b) rowHeads rowPlaces (rowRight b) i counts head next → Block (rowCsd b) (rowChain b) rowHeads rowPlaces (rowRight b) i true counts head next
+  pub row-over : (i : ℕ) (r : Bool) (counts head next : List ℕ) → r ≡ blockFree b i rowBase rowWidth → r ≡ true
+      → i + blockPlaces ≤ rowPlaces → Going (rowCsd b) (rowChain b) rowHeads rowPlaces (rowRight b) i counts head next
+      → Block (rowCsd b) (rowChain b) rowHeads rowPlaces (rowRight b) i true counts head next
   unfolding blockFree rowAt rowZero allZero every rowCsd rowRight
   row-over i r counts head next e f l g =
       let t = sym e ∙ f in

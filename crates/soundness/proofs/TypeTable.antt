@@ -34,7 +34,8 @@ module _ (b : List ℕ) where
   inside k l = omega arith
 
   -- A type of the key is a place of its bucket.
-  of-key : (c n o j : ℕ) → typeHit b c (Types.Named n o) j ≡ true → (typeCsd b j ≡ c) × (typeChain b j ≡ typeBucket c n o)
+  of-key : (c n o j : ℕ) → typeHit b c (Types.Named n o) j ≡ true
+      → (typeCsd b j ≡ c) × (typeChain b j ≡ typeBucket c n o)
   unfolding typeCsd typeChain typeHit typeMeets isType typeOf
   of-key c n o j e =
       let x = eqb-true (typeAt b j .csd) c (search ands) in
@@ -47,18 +48,26 @@ module _ (b : List ℕ) where
   type-only k j e = of-key (typeAt b k .csd) (typeAt b k .number) (typeAt b k .object) j e
 
   -- What is found in the chains of the whole table.
-  pub type-found : (head next : List ℕ) (c n o : ℕ) → Chained (typeCsd b) (typeChain b) typeHeads typePlaces head next typePlaces → (c ≡ 0 → ⊥) → c ≤ 8 → typeHeld b c n o head next ≡ anyBelow (typeHit b c (Types.Named n o)) typePlaces
+  pub type-found : (head next : List ℕ) (c n o : ℕ)
+      → Chained (typeCsd b) (typeChain b) typeHeads typePlaces head next typePlaces → (c ≡ 0 → ⊥) → c ≤ 8
+      → typeHeld b c n o head next ≡ anyBelow (typeHit b c (Types.Named n o)) typePlaces
   unfolding typeHeld
   type-found head next c n o m u l =
       table-any (typeCsd b) (typeChain b) typeHeads typePlaces head next m (typeHit b c (Types.Named n o)) c (typeBucket c n o) u (of-key c n o) (omega arith)
 
-  pub type-free : (i : ℕ) (t : RestrictionType) (r : Bool) (counts head next : List ℕ) → r ≡ typeZero t → t .csd ≡ 0 → t ≡ typeAt b i → Ready (typeCsd b) (typeChain b) typeHeads typePlaces i counts head next → Passed (typeCsd b) (typeChain b) typeHeads typePlaces (typeRight b) i r counts head next
+  pub type-free : (i : ℕ) (t : RestrictionType) (r : Bool) (counts head next : List ℕ) → r ≡ typeZero t → t .csd ≡ 0
+      → t ≡ typeAt b i → Ready (typeCsd b) (typeChain b) typeHeads typePlaces i counts head next
+      → Passed (typeCsd b) (typeChain b) typeHeads typePlaces (typeRight b) i r counts head next
   unfolding typeCsd typeRight
   type-free i t r counts head next er z e m =
       passed-free (typeCsd b) (typeChain b) typeHeads typePlaces (λ k. typeZero (typeAt b k)) (typeRest b) (typeSame b) typeQuota i r counts head next m
       (ap (λ x. x .csd) (sym e) ∙ z) (er ∙ ap typeZero e)
 
-  pub type-used : (i k : ℕ) (t : RestrictionType) (r : Bool) (counts head next counts′ head′ next′ : List ℕ) → Entered (t .csd) k i counts head next counts′ head′ next′ → k ≡ typeBucket (t .csd) (t .number) (t .object) → r ≡ rightBy (typeFits (typeOf t)) (typeHeld b (t .csd) (t .number) (t .object) head next) typeQuota (t .csd) counts → t ≡ typeAt b i → Ready (typeCsd b) (typeChain b) typeHeads typePlaces i counts head next → (t .csd ≡ 0 → ⊥) → Passed (typeCsd b) (typeChain b) typeHeads typePlaces (typeRight b) i r counts′ head′ next′
+  pub type-used : (i k : ℕ) (t : RestrictionType) (r : Bool) (counts head next counts′ head′ next′ : List ℕ)
+      → Entered (t .csd) k i counts head next counts′ head′ next′ → k ≡ typeBucket (t .csd) (t .number) (t .object)
+      → r ≡ rightBy (typeFits (typeOf t)) (typeHeld b (t .csd) (t .number) (t .object) head next) typeQuota (t .csd) counts
+      → t ≡ typeAt b i → Ready (typeCsd b) (typeChain b) typeHeads typePlaces i counts head next → (t .csd ≡ 0 → ⊥)
+      → Passed (typeCsd b) (typeChain b) typeHeads typePlaces (typeRight b) i r counts′ head′ next′
   unfolding typeHeld typeCsd typeChain typeSame typeRest typeRight
   type-used i k t r counts head next counts′ head′ next′ n ek er e m u =
       passed-used (typeCsd b) (typeChain b) typeHeads typePlaces (λ k. typeZero (typeAt b k)) (typeRest b) (typeSame b) typeQuota
@@ -68,7 +77,10 @@ module _ (b : List ℕ) where
       (λ l. ap (λ x. typeFits (typeOf x)) e)
 
   -- Sixteen places whose bytes are all 0 are free.
-  pub type-over : (i : ℕ) (r : Bool) (counts head next : List ℕ) → r ≡ blockFree b i typeBase typeWidth → r ≡ true → i + blockPlaces ≤ typePlaces → Going (typeCsd b) (typeChain b) typeHeads typePlaces (typeRight b) i counts head next → Block (typeCsd b) (typeChain b) typeHeads typePlaces (typeRight b) i true counts head next
+  pub type-over : (i : ℕ) (r : Bool) (counts head next : List ℕ) → r ≡ blockFree b i typeBase typeWidth → r ≡ true
+      → i + blockPlaces ≤ typePlaces
+      → Going (typeCsd b) (typeChain b) typeHeads typePlaces (typeRight b) i counts head next
+      → Block (typeCsd b) (typeChain b) typeHeads typePlaces (typeRight b) i true counts head next
   unfolding blockFree typeAt typeZero allZero every typeCsd typeRight
   type-over i r counts head next e f l g =
       let t = sym e ∙ f in

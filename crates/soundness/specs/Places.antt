@@ -4,7 +4,6 @@ use mathlib.Core.List.{List}
 use mathlib.Core.Bool.{Bool, _&&_, _||_}
 use lib.Dec.{leb}
 use lib.ListN.{length}
-use Rattle.meaning.specs.Records.{typeQuota, ruleQuota, rowQuota, periodQuota}
 use Rattle.meaning.specs.Records as M
 use Rattle.meaning.specs.Fields.{within}
 use Rattle.meaning.specs.Sound.{goodType, goodRule, goodRow, goodPeriod}

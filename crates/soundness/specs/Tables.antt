@@ -1,5 +1,6 @@
--- The four tables as places in chains: whose a place is, its bucket, and what makes it right. A bucket is computed from what two records
--- that clash have in common; the depository is a part of it, so that no chain is longer than a quota. Assumes nothing.
+-- The four tables as places in chains: whose a place is, its bucket, and what makes it right. A bucket is computed from
+-- what two records that clash have in common; the depository is a part of it, so that no chain is longer than a quota.
+-- Assumes nothing.
 use Prim.Native.Nat.{ℕ, _+_, _*_, _/_, _%_}
 use mathlib.Core.Path.{_≡_}
 use mathlib.Core.Bool.{Bool, true, _&&_}

@@ -40,11 +40,13 @@ least-same f g (suc n) h = rw (h n (omega arith), least-same f g n (λ i l. h i 
 
 -- What a fold over a lone list is, over the places.
 module _ {P R : Type 0} (csd : P → ℕ) (rec : P → R) (a : ℕ) (at : ℕ → P) where
-  pub has-lone : (p : R → Bool) (n : ℕ) → has p (lone csd rec a at n) ≡ anyBelow (λ i. eqb (csd (at i)) a && p (rec (at i))) n
+  pub has-lone : (p : R → Bool) (n : ℕ)
+      → has p (lone csd rec a at n) ≡ anyBelow (λ i. eqb (csd (at i)) a && p (rec (at i))) n
   unfolding has
   has-lone p n = ap (ltb 0) (count-lone csd rec a p at n) ∙ any-count (λ i. eqb (csd (at i)) a && p (rec (at i))) n
 
-  pub least-lone : (f : R → ℕ) (p : R → Bool) (n : ℕ) → least f p (lone csd rec a at n) ≡ leastBelow (λ i. cond (eqb (csd (at i)) a && p (rec (at i))) (f (rec (at i))) 0) n
+  pub least-lone : (f : R → ℕ) (p : R → Bool) (n : ℕ)
+      → least f p (lone csd rec a at n) ≡ leastBelow (λ i. cond (eqb (csd (at i)) a && p (rec (at i))) (f (rec (at i))) 0) n
   unfolding least lone leastBelow
   least-lone f p zero = refl
   least-lone f p (suc n) = cases (eqb (csd (at n)) a) (λ e. rw (e, least-lone f p n)) (λ e. rw (e, least-lone f p n))
@@ -84,12 +86,15 @@ lesser-self (suc a) = omega arith
 
 -- ---- numbers looked through in rising order
 
-least-or : (p q : ℕ → Bool) (n : ℕ) → leastBelow (λ i. cond (p i || q i) i 0) n ≡ lesser (leastBelow (λ i. cond (p i) i 0) n) (leastBelow (λ i. cond (q i) i 0) n)
+least-or : (p q : ℕ → Bool) (n : ℕ)
+    → leastBelow (λ i. cond (p i || q i) i 0) n
+    ≡ lesser (leastBelow (λ i. cond (p i) i 0) n) (leastBelow (λ i. cond (q i) i 0) n)
 unfolding leastBelow
 least-or p q zero = refl
 least-or p q (suc n) = rw (least-or p q n) (cross (p n) (q n) n (leastBelow (λ i. cond (p i) i 0) n) (leastBelow (λ i. cond (q i) i 0) n))
   where
-    cross : (a b : Bool) (x y z : ℕ) → lesser (cond (a || b) x 0) (lesser y z) ≡ lesser (lesser (cond a x 0) y) (lesser (cond b x 0) z)
+    cross : (a b : Bool) (x y z : ℕ)
+        → lesser (cond (a || b) x 0) (lesser y z) ≡ lesser (lesser (cond a x 0) y) (lesser (cond b x 0) z)
     cross true true x y z =
         ap (λ k. lesser k (lesser y z)) (sym (lesser-self x)) ∙ sym (lesser-assoc x x (lesser y z))
         ∙ ap (λ k. lesser x k) (lesser-swap x y z) ∙ lesser-assoc x y (lesser x z)
@@ -115,9 +120,10 @@ unfolding leastBelow
 least-never zero = refl
 least-never (suc n) = least-never n
 
--- f gives each place that is on a number below m. The numbers are looked through in rising order, each for whether some place has it: the
--- first found is the least number of a place.
-pub least-by : (on : ℕ → Bool) (f : ℕ → ℕ) (m n : ℕ) → ((i : ℕ) → i < n → on i ≡ true → f i < m) → leastBelow (λ s. cond (anyBelow (λ i. on i && eqb (f i) s) n) s 0) m ≡ leastBelow (λ i. cond (on i) (f i) 0) n
+-- f gives each place that is on a number below m. The numbers are looked through in rising order, each for whether some
+-- place has it: the first found is the least number of a place.
+pub least-by : (on : ℕ → Bool) (f : ℕ → ℕ) (m n : ℕ) → ((i : ℕ) → i < n → on i ≡ true → f i < m)
+    → leastBelow (λ s. cond (anyBelow (λ i. on i && eqb (f i) s) n) s 0) m ≡ leastBelow (λ i. cond (on i) (f i) 0) n
 unfolding anyBelow leastBelow
 least-by on f m zero h = least-never m
 least-by on f m (suc n) h =

@@ -96,7 +96,8 @@ count-same f g (suc n) h =
     omega (arith, count-same f g n (λ k l. h k (omega arith)), ap bit (h n (omega arith)))
 
 -- Two tests that agree but at one place.
-pub count-moved : (f g : ℕ → Bool) (i n : ℕ) → i < n → ((k : ℕ) → k < n → (k ≡ i → ⊥) → g k ≡ f k) → countBelow g n + bit (f i) ≡ countBelow f n + bit (g i)
+pub count-moved : (f g : ℕ → Bool) (i n : ℕ) → i < n → ((k : ℕ) → k < n → (k ≡ i → ⊥) → g k ≡ f k)
+    → countBelow g n + bit (f i) ≡ countBelow f n + bit (g i)
 unfolding countBelow
 count-moved f g i zero l h = absurd (omega arith)
 count-moved f g i (suc n) l h =
@@ -122,7 +123,8 @@ count-some p (suc n) k l e =
     (λ s. omega (arith, count-some p n k (omega arith) e))
 
 -- Where p holds at one place at most, two such places are one.
-pub count-only : (p : ℕ → Bool) (n : ℕ) → countBelow p n ≤ 1 → (i j : ℕ) → i < n → j < n → p i ≡ true → p j ≡ true → i ≡ j
+pub count-only : (p : ℕ → Bool) (n : ℕ) → countBelow p n ≤ 1 → (i j : ℕ) → i < n → j < n → p i ≡ true → p j ≡ true
+    → i ≡ j
 unfolding countBelow
 count-only p zero h i j a b e f = absurd (omega arith)
 count-only p (suc n) h i j a b e f =
@@ -133,7 +135,8 @@ count-only p (suc n) h i j a b e f =
     (λ t. count-only p n (omega arith) i j (omega arith) (omega arith) e f))
 
 -- Where p holds at some place, the place found is one.
-pub find-some : (d : ℕ) (p : ℕ → Bool) (n : ℕ) → 1 ≤ countBelow p n → (findBelow d p n < n) × (p (findBelow d p n) ≡ true)
+pub find-some : (d : ℕ) (p : ℕ → Bool) (n : ℕ) → 1 ≤ countBelow p n
+    → (findBelow d p n < n) × (p (findBelow d p n) ≡ true)
 unfolding countBelow findBelow
 find-some d p zero h = absurd (omega arith)
 find-some d p (suc n) h =
@@ -192,12 +195,14 @@ module _ {R : Type 0} where
   count-alter p g [] = refl
   count-alter p g (x ∷ l) = rw (count-alter p g l)
 
-  pub keep-alter : (q : R → Bool) (g : R → R) (l : List R) → ((x : R) → q (g x) ≡ q x) → keep q (alter g l) ≡ alter g (keep q l)
+  pub keep-alter : (q : R → Bool) (g : R → R) (l : List R) → ((x : R) → q (g x) ≡ q x)
+      → keep q (alter g l) ≡ alter g (keep q l)
   unfolding keep alter
   keep-alter q g [] h = refl
   keep-alter q g (x ∷ l) h = cases (q x) (λ e. rw (h x, e, keep-alter q g l h)) (λ e. rw (h x, e, keep-alter q g l h))
 
-  pub alter-still : (q : R → Bool) (g : R → R) (l : List R) → ((x : R) → q x ≡ true → g x ≡ x) → alter g (keep q l) ≡ keep q l
+  pub alter-still : (q : R → Bool) (g : R → R) (l : List R) → ((x : R) → q x ≡ true → g x ≡ x)
+      → alter g (keep q l) ≡ keep q l
   unfolding keep alter
   alter-still q g [] h = refl
   alter-still q g (x ∷ l) h = cases (q x) (λ e. rw (e, h x e, alter-still q g l h)) (λ e. rw (e, alter-still q g l h))

@@ -1,4 +1,5 @@
--- The place found: where a depository's list has a record as asked, the place is one of it; a free place where its quota leaves room.
+-- The place found: where a depository's list has a record as asked, the place is one of it; a free place where its
+-- quota leaves room.
 use Prim.Native.Nat.{ℕ, _*_, _≤_, _<_}
 use mathlib.Core.Path.{_≡_, ap, _∙_}
 use mathlib.Core.Bool.{Bool, true, _&&_, and-true}
@@ -25,7 +26,11 @@ module _ {P R : Type 0} (csd : P → ℕ) (rec : P → R) (at : ℕ → P) (n a 
       (f .0, eqb-true (csd (at place)) a (b .0), b .1)
 
 -- A free place is depository 0's, whatever is asked of its record.
-pub found-free : {P R : Type 0} (csd : P → ℕ) (rec : P → R) (at : ℕ → P) (n m q : ℕ) (p : R → Bool) → ((x : R) → p x ≡ true) → ((c : ℕ) → 1 ≤ c → c ≤ m → length (lone csd rec c at n) ≤ q) → (c : ℕ) → 1 ≤ c → c ≤ m → length (lone csd rec c at n) < q → m * q ≤ n → ((k : ℕ) → k < n → (csd (at k) ≡ 0 → ⊥) → (1 ≤ csd (at k)) × (csd (at k) ≤ m)) → (place csd rec at n 0 p < n) × (csd (at (place csd rec at n 0 p)) ≡ 0)
+pub found-free : {P R : Type 0} (csd : P → ℕ) (rec : P → R) (at : ℕ → P) (n m q : ℕ) (p : R → Bool)
+    → ((x : R) → p x ≡ true) → ((c : ℕ) → 1 ≤ c → c ≤ m → length (lone csd rec c at n) ≤ q) → (c : ℕ) → 1 ≤ c → c ≤ m
+    → length (lone csd rec c at n) < q → m * q ≤ n
+    → ((k : ℕ) → k < n → (csd (at k) ≡ 0 → ⊥) → (1 ≤ csd (at k)) × (csd (at k) ≤ m))
+    → (place csd rec at n 0 p < n) × (csd (at (place csd rec at n 0 p)) ≡ 0)
 found-free csd rec at n m q p any few c low high room fit each =
     let e = find-same n (λ k. eqb (csd (at k)) 0 && p (rec (at k))) (λ k. eqb (csd (at k)) 0) n (λ k. ap (λ t. eqb (csd (at k)) 0 && t) (any (rec (at k))) ∙ and-true (eqb (csd (at k)) 0)) in
     let f = free-place csd rec at n m q few c low high room fit each in

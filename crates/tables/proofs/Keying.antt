@@ -1,5 +1,5 @@
--- Laws of a table addressed by key, for any table of records, key, test and step: before the first place, one place more, and what its
--- entries say of all the places.
+-- Laws of a table addressed by key, for any table of records, key, test and step: before the first place, one place
+-- more, and what its entries say of all the places.
 use Prim.Native.Nat.{ℕ, zero, suc, _+_, _*_, _/_, _%_, _≤_, _<_}
 use mathlib.Core.Path.{_≡_, refl, ap, ap₂, sym, _∙_, fun-ext}
 use mathlib.Core.Bool.{Bool, true, false, _&&_, cond, and-false}
@@ -25,9 +25,11 @@ pub store-past : (t : List ℕ) (k v : ℕ) (on : Bool) → length t ≤ k → t
 store-past t k v true l = sym (set-out t k v l)
 store-past t k v false l = refl
 
--- What one place leaves to show: c is read first. If it is a, x is read; k is its key, v whether it is on, and w what is stored if so.
+-- What one place leaves to show: c is read first. If it is a, x is read; k is its key, v whether it is on, and w what
+-- is stored if so.
 module _ {P : Type 0} (csd : P → ℕ) (a : ℕ) (key : P → ℕ) (on : P → Bool) (step : P → ℕ → ℕ) where
-  pub place-own : (y x : P) (t t′ : List ℕ) (c k w : ℕ) (v : Bool) → t′ ≡ cond v (set t k w) t → v ≡ on x → w ≡ step x (getD t k 0) → k ≡ key x → x ≡ y → c ≡ csd y → c ≡ a → t′ ≡ afterPlace csd a key on step y t
+  pub place-own : (y x : P) (t t′ : List ℕ) (c k w : ℕ) (v : Bool) → t′ ≡ cond v (set t k w) t → v ≡ on x
+      → w ≡ step x (getD t k 0) → k ≡ key x → x ≡ y → c ≡ csd y → c ≡ a → t′ ≡ afterPlace csd a key on step y t
   unfolding afterPlace
   place-own y x t t′ c k w v et ev ew ek ex ec eo =
       rw (eq-eqb (csd y) a (sym ec ∙ eo)) (et ∙ rw (ev, ew, ek, ex))
@@ -37,7 +39,9 @@ module _ {P : Type 0} (csd : P → ℕ) (a : ℕ) (key : P → ℕ) (on : P → 
   place-other y t c ec d = rw (ne-eqb (csd y) a (λ z. d (ec ∙ z)))
 
 module _ {P : Type 0} (size : ℕ) (csd : P → ℕ) (a : ℕ) (at : ℕ → P) (key : P → ℕ) (on : P → Bool) (step : P → ℕ → ℕ) where
-  entry-more : (k n : ℕ) → entry csd a at key on step k (n + 1) ≡ cond (hits csd a at key on k n) (step (at n) (entry csd a at key on step k n)) (entry csd a at key on step k n)
+  entry-more : (k n : ℕ)
+      → entry csd a at key on step k (n + 1)
+      ≡ cond (hits csd a at key on k n) (step (at n) (entry csd a at key on step k n)) (entry csd a at key on step k n)
   unfolding entry
   entry-more k n = rw add-one
 
@@ -47,11 +51,13 @@ module _ {P : Type 0} (size : ℕ) (csd : P → ℕ) (a : ℕ) (at : ℕ → P) 
   keyed-none t b = record { long = b .long; each = λ k l. b .each k l }
 
   -- One place more that hits no key leaves the table as it is.
-  keyed-missed : (t : List ℕ) (n : ℕ) → Keyed size csd a at key on step t n → ((k : ℕ) → k < size → hits csd a at key on k n ≡ false) → Keyed size csd a at key on step t (n + 1)
+  keyed-missed : (t : List ℕ) (n : ℕ) → Keyed size csd a at key on step t n
+      → ((k : ℕ) → k < size → hits csd a at key on k n ≡ false) → Keyed size csd a at key on step t (n + 1)
   keyed-missed t n m h = record { long = m .long; each = λ k l. rw (entry-more, h k l) (m .each k l) }
 
   -- One place more.
-  pub keyed-more : (t t′ : List ℕ) (n : ℕ) → Keyed size csd a at key on step t n → t′ ≡ afterPlace csd a key on step (at n) t → Keyed size csd a at key on step t′ (n + 1)
+  pub keyed-more : (t t′ : List ℕ) (n : ℕ) → Keyed size csd a at key on step t n
+      → t′ ≡ afterPlace csd a key on step (at n) t → Keyed size csd a at key on step t′ (n + 1)
   unfolding afterPlace
   keyed-more t t′ n m e =
       let k = key (at n) in
@@ -79,7 +85,8 @@ module _ {P : Type 0} (size : ℕ) (csd : P → ℕ) (a : ℕ) (at : ℕ → P) 
       (λ o. let s : t′ ≡ t = e ∙ rw o in rw s (keyed-missed t n m (λ j l. rw o)))
 
   -- Past its end a table has no entry.
-  keyed-at : (t : List ℕ) (n : ℕ) → Keyed size csd a at key on step t n → (k : ℕ) → getD t k 0 ≡ cond (ltb k size) (entry csd a at key on step k n) 0
+  keyed-at : (t : List ℕ) (n : ℕ) → Keyed size csd a at key on step t n → (k : ℕ)
+      → getD t k 0 ≡ cond (ltb k size) (entry csd a at key on step k n) 0
   keyed-at t n m k =
       cases (ltb k size)
       (λ e. rw e (m .each k (ltb-true k size e)))
@@ -94,7 +101,8 @@ module _ {P : Type 0} (size : ℕ) (csd : P → ℕ) (a : ℕ) (at : ℕ → P) 
   entry-mark k (suc n) = cases (hits csd a at key on k n) (λ e. rw e) (λ e. rw e (entry-mark k n))
 
   -- After the last place, a table of marks has the keys that are hit.
-  pub keyed-marks : (t : List ℕ) (i n : ℕ) → Keyed size csd a at key on (λ r m. 1) t i → i ≡ n → marked t ≡ keys csd a at key on size n
+  pub keyed-marks : (t : List ℕ) (i n : ℕ) → Keyed size csd a at key on (λ r m. 1) t i → i ≡ n
+      → marked t ≡ keys csd a at key on size n
   unfolding keys
   keyed-marks t i n m e =
       fun-ext (λ k.
@@ -107,13 +115,16 @@ module _ {P : Type 0} (size : ℕ) (csd : P → ℕ) (a : ℕ) (at : ℕ → P) 
       bit-one true = refl
       bit-one false = refl
 
-  entry-least : (f : P → ℕ) (k n : ℕ) → entry csd a at key on (λ r m. lesser (f r) m) k n ≡ leastBelow (λ i. cond (hits csd a at key on k i) (f (at i)) 0) n
+  entry-least : (f : P → ℕ) (k n : ℕ)
+      → entry csd a at key on (λ r m. lesser (f r) m) k n
+      ≡ leastBelow (λ i. cond (hits csd a at key on k i) (f (at i)) 0) n
   unfolding entry leastBelow
   entry-least f k zero = refl
   entry-least f k (suc n) = cases (hits csd a at key on k n) (λ e. rw (e, entry-least f k n)) (λ e. rw (e, entry-least f k n))
 
   -- And a table of least numbers has those of the places that hit each key.
-  pub keyed-leasts : (f : P → ℕ) (t : List ℕ) (i n : ℕ) → Keyed size csd a at key on (λ r m. lesser (f r) m) t i → i ≡ n → (λ k. getD t k 0) ≡ leasts csd a at key on f size n
+  pub keyed-leasts : (f : P → ℕ) (t : List ℕ) (i n : ℕ) → Keyed size csd a at key on (λ r m. lesser (f r) m) t i → i ≡ n
+      → (λ k. getD t k 0) ≡ leasts csd a at key on f size n
   unfolding leasts
   keyed-leasts f t i n m e =
       fun-ext (λ k.
@@ -121,7 +132,8 @@ module _ {P : Type 0} (size : ℕ) (csd : P → ℕ) (a : ℕ) (at : ℕ → P) 
       ∙ ap (λ x. cond (ltb k size) x 0) (entry-least f k n))
 
   -- Where every place of a that is on has a key of the table, the table tells of every key.
-  pub keys-all : (n : ℕ) → ((i : ℕ) → i < n → csd (at i) ≡ a → on (at i) ≡ true → key (at i) < size) → (k : ℕ) → keys csd a at key on size n k ≡ anyBelow (hits csd a at key on k) n
+  pub keys-all : (n : ℕ) → ((i : ℕ) → i < n → csd (at i) ≡ a → on (at i) ≡ true → key (at i) < size) → (k : ℕ)
+      → keys csd a at key on size n k ≡ anyBelow (hits csd a at key on k) n
   unfolding keys
   keys-all n h k =
       cases (ltb k size) (λ e. rw e)

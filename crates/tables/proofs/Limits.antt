@@ -26,7 +26,8 @@ module _ {R K : Type 0} (ask : K → R → Bool) (key : R → K) (hit : (κ : K)
       every-map (λ r. true) (λ r. leb (count (ask (key r)) l) m) l (every-any l) (λ r e. le-leb (count (ask (key r)) l) m (lim (key r)))
 
   -- A record more keeps the limit where its key had room.
-  pub limit-added : (l l′ : List R) (r : R) → Same l′ (r ∷ l) → ((κ : K) → count (ask κ) l ≤ m) → count (ask (key r)) l < m → (κ : K) → count (ask κ) l′ ≤ m
+  pub limit-added : (l l′ : List R) (r : R) → Same l′ (r ∷ l) → ((κ : K) → count (ask κ) l ≤ m)
+      → count (ask (key r)) l < m → (κ : K) → count (ask κ) l′ ≤ m
   limit-added l l′ r grow lim room κ =
       cases (ask κ r)
       (λ e. rw (hit κ r e) (omega (arith, grow (ask (key r)), count-cons (ask (key r)) r l, bit-most (ask (key r) r))))

@@ -1,4 +1,5 @@
--- Laws of the folds over lists: what a count of a changed list is, what holds of each record, and that the order of a list carries no meaning.
+-- Laws of the folds over lists: what a count of a changed list is, what holds of each record, and that the order of a
+-- list carries no meaning.
 use Prim.Native.Nat.{ℕ, zero, suc, _+_, _≤_, _<_, min}
 use mathlib.Core.Path.{_≡_, refl, ap, sym, _∙_}
 use mathlib.Core.Bool.{Bool, true, false, _&&_, _||_, not, cond, false≢true}
@@ -69,19 +70,22 @@ module _ {R : Type 0} where
   -- ---- every
 
   -- Where each passes p and one passes q, there is one that passes both.
-  pub some-of : {G : Type 0} (p q : R → Bool) (l : List R) → every p l ≡ true → 0 < count q l → ((x : R) → p x ≡ true → q x ≡ true → G) → G
+  pub some-of : {G : Type 0} (p q : R → Bool) (l : List R) → every p l ≡ true → 0 < count q l
+      → ((x : R) → p x ≡ true → q x ≡ true → G) → G
   unfolding every count
   some-of p q [] e h k = absurd (omega arith)
   some-of p q (x ∷ l) e h k =
       let b = both (p x) (every p l) e in
       cases (q x) (λ t. k x (b .0) t) (λ t. some-of p q l (b .1) (omega (arith, ap bit t)) k)
 
-  pub every-map : (p q : R → Bool) (l : List R) → every p l ≡ true → ((x : R) → p x ≡ true → q x ≡ true) → every q l ≡ true
+  pub every-map : (p q : R → Bool) (l : List R) → every p l ≡ true → ((x : R) → p x ≡ true → q x ≡ true)
+      → every q l ≡ true
   unfolding every
   every-map p q [] e h = refl
   every-map p q (x ∷ l) e h = let b = both (p x) (every p l) e in rw (h x (b .0), every-map p q l (b .1) h)
 
-  pub every-both : (p q : R → Bool) (l : List R) → every p l ≡ true → every q l ≡ true → every (λ x. p x && q x) l ≡ true
+  pub every-both : (p q : R → Bool) (l : List R) → every p l ≡ true → every q l ≡ true
+      → every (λ x. p x && q x) l ≡ true
   unfolding every
   every-both p q [] e f = refl
   every-both p q (x ∷ l) e f =
@@ -119,7 +123,8 @@ module _ {R : Type 0} where
   every-none p (x ∷ l) h = let e : p x ≡ false = bit-none (p x) (omega arith) in rw (e, every-none p l (omega arith))
 
   -- Among records that each pass r, a test that follows from another counts no more.
-  pub count-under : (r p q : R → Bool) (l : List R) → every r l ≡ true → ((x : R) → r x ≡ true → p x ≡ true → q x ≡ true) → count p l ≤ count q l
+  pub count-under : (r p q : R → Bool) (l : List R) → every r l ≡ true
+      → ((x : R) → r x ≡ true → p x ≡ true → q x ≡ true) → count p l ≤ count q l
   unfolding every count
   count-under r p q [] e h = omega arith
   count-under r p q (x ∷ l) e h =

@@ -1,4 +1,5 @@
--- Laws of the lone list of any table: what is counted in it, what a store at one place makes of it, and what holds of each record in it.
+-- Laws of the lone list of any table: what is counted in it, what a store at one place makes of it, and what holds of
+-- each record in it.
 use Prim.Native.Nat.{ℕ, zero, suc, _+_, _-_, _≤_, _<_}
 use mathlib.Core.Path.{_≡_, refl, ap, sym, _∙_}
 use mathlib.Core.Bool.{Bool, true, false, _&&_, _||_, not, cond}
@@ -10,28 +11,33 @@ use Rattle.tables.specs.Count.{bit, countBelow, allBelow, count, every, 
 use Rattle.tables.proofs.Counts.{cases, cases-eq, both, agree, count-moved, count-only, all-at, all-put}
 
 module _ {P R : Type 0} (csd : P → ℕ) (rec : P → R) where
-  pub count-lone : (a : ℕ) (p : R → Bool) (at : ℕ → P) (n : ℕ) → count p (lone csd rec a at n) ≡ countBelow (λ k. eqb (csd (at k)) a && p (rec (at k))) n
+  pub count-lone : (a : ℕ) (p : R → Bool) (at : ℕ → P) (n : ℕ)
+      → count p (lone csd rec a at n) ≡ countBelow (λ k. eqb (csd (at k)) a && p (rec (at k))) n
   unfolding count lone countBelow
   count-lone a p at zero = refl
   count-lone a p at (suc n) =
       cases (eqb (csd (at n)) a) (λ e. rw (e, count-lone a p at n)) (λ e. rw e (omega (arith, count-lone a p at n)))
 
   -- Two tables that agree at the places of a have one lone list.
-  pub lone-same : (a : ℕ) (at at′ : ℕ → P) (n : ℕ) → ((k : ℕ) → k < n → at′ k ≡ at k) → lone csd rec a at′ n ≡ lone csd rec a at n
+  pub lone-same : (a : ℕ) (at at′ : ℕ → P) (n : ℕ) → ((k : ℕ) → k < n → at′ k ≡ at k)
+      → lone csd rec a at′ n ≡ lone csd rec a at n
   unfolding lone
   lone-same a at at′ zero h = refl
   lone-same a at at′ (suc n) h = rw (h n (omega arith), lone-same a at at′ n (λ k l. h k (omega arith)))
 
   -- A store at one place: what is counted moves by what stood there and what stands there now.
   module _ (at at′ : ℕ → P) (i n : ℕ) (place : i < n) (others : (k : ℕ) → k < n → (k ≡ i → ⊥) → at′ k ≡ at k) where
-    pub lone-moved : (a : ℕ) (p : R → Bool) → count p (lone csd rec a at′ n) + bit (eqb (csd (at i)) a && p (rec (at i))) ≡ count p (lone csd rec a at n) + bit (eqb (csd (at′ i)) a && p (rec (at′ i)))
+    pub lone-moved : (a : ℕ) (p : R → Bool)
+        → count p (lone csd rec a at′ n) + bit (eqb (csd (at i)) a && p (rec (at i)))
+        ≡ count p (lone csd rec a at n) + bit (eqb (csd (at′ i)) a && p (rec (at′ i)))
     lone-moved a p =
         rw (count-lone a p at′ n, count-lone a p at n)
         (count-moved (λ k. eqb (csd (at k)) a && p (rec (at k))) (λ k. eqb (csd (at′ k)) a && p (rec (at′ k))) i n place
         (λ k l h. ap (λ r. eqb (csd r) a && p (rec r)) (others k l h)))
 
   -- every record of a's is as p asks, exactly if the places of a are
-  pub every-put : (a : ℕ) (p : R → Bool) (at : ℕ → P) (n : ℕ) → ((k : ℕ) → k < n → csd (at k) ≡ a → p (rec (at k)) ≡ true) → every p (lone csd rec a at n) ≡ true
+  pub every-put : (a : ℕ) (p : R → Bool) (at : ℕ → P) (n : ℕ)
+      → ((k : ℕ) → k < n → csd (at k) ≡ a → p (rec (at k)) ≡ true) → every p (lone csd rec a at n) ≡ true
   unfolding every lone
   every-put a p at zero h = refl
   every-put a p at (suc n) h =
@@ -40,7 +46,8 @@ module _ {P R : Type 0} (csd : P → ℕ) (rec : P → R) where
       (λ e. rw (e, h n (omega arith) (eqb-true (csd (at n)) a e), r))
       (λ e. rw (e, r))
 
-  pub every-at : (a : ℕ) (p : R → Bool) (at : ℕ → P) (n : ℕ) → every p (lone csd rec a at n) ≡ true → (k : ℕ) → k < n → csd (at k) ≡ a → p (rec (at k)) ≡ true
+  pub every-at : (a : ℕ) (p : R → Bool) (at : ℕ → P) (n : ℕ) → every p (lone csd rec a at n) ≡ true → (k : ℕ) → k < n
+      → csd (at k) ≡ a → p (rec (at k)) ≡ true
   unfolding every lone
   every-at a p at zero e k l s = absurd (omega arith)
   every-at a p at (suc n) e k l s =
@@ -66,7 +73,8 @@ or-right : (a b c : Bool) → a ≡ false → (a || (b && c)) ≡ true → c ≡
 or-right true b c z e = absurd (omega (arith, ap bit z))
 or-right false b c z e = both b c e .1
 
--- Soundness of a table, place by place, is that each place is free or a depository's, and each depository's lone list is sound.
+-- Soundness of a table, place by place, is that each place is free or a depository's, and each depository's lone list
+-- is sound.
 module _ {P R : Type 0} (csd : P → ℕ) (rec : P → R) (free : P → Bool) (nobody : (r : P) → free r ≡ true → csd r ≡ 0) (m : ℕ) (f : ℕ → R → Bool) (at : ℕ → P) (n : ℕ) where
   -- of a depository, 1 to m
   unfoldable pub owned : ℕ → Bool
@@ -89,7 +97,8 @@ module _ {P R : Type 0} (csd : P → ℕ) (rec : P → R) (free : P → Bool) (n
       ap (λ c. f c (rec (at k))) (sym s)
       ∙ or-right (free (at k)) (owned k) (right k) (taken k (omega (arith, s))) (all-at (λ k. free (at k) || (owned k && right k)) n e k u))
 
-  each-of-lone : allBelow (λ k. free (at k) || owned k) n ≡ true → allBelow held m ≡ true → (k : ℕ) → k < n → (free (at k) || (owned k && right k)) ≡ true
+  each-of-lone : allBelow (λ k. free (at k) || owned k) n ≡ true → allBelow held m ≡ true → (k : ℕ) → k < n
+      → (free (at k) || (owned k && right k)) ≡ true
   unfolding owned held right
   each-of-lone e h k l =
       cases (free (at k)) (λ z. rw z)
@@ -102,7 +111,8 @@ module _ {P R : Type 0} (csd : P → ℕ) (rec : P → R) (free : P → Bool) (n
       let x = every-at csd rec (csd (at k) - 1 + 1) (f (csd (at k) - 1 + 1)) at n (all-at held m h (csd (at k) - 1) (omega arith)) k l (sym s) in
       rw (z, b .0, b .1) (ap (λ c. f c (rec (at k))) (sym s) ∙ x))
 
-  pub each-lone : allBelow (λ k. free (at k) || (owned k && right k)) n ≡ (allBelow (λ k. free (at k) || owned k) n && allBelow held m)
+  pub each-lone : allBelow (λ k. free (at k) || (owned k && right k)) n
+      ≡ (allBelow (λ k. free (at k) || owned k) n && allBelow held m)
   each-lone =
       agree (allBelow (λ k. free (at k) || (owned k && right k)) n) (allBelow (λ k. free (at k) || owned k) n && allBelow held m)
       (λ e.
@@ -131,7 +141,8 @@ module _ {P R : Type 0} (csd : P → ℕ) (rec : P → R) (c : ℕ) (t : R → B
 
   -- what the other depositories hold, where one place changes hands to none of them
   module _ (at′ : ℕ → P) (others : (k : ℕ) → k < n → (k ≡ i → ⊥) → at′ k ≡ at k) where
-    pub lone-others : (a : ℕ) → (c ≡ a → ⊥) → (csd (at′ i) ≡ a → ⊥) → (m : ℕ) → m ≤ n → lone csd rec a at′ m ≡ lone csd rec a at m
+    pub lone-others : (a : ℕ) → (c ≡ a → ⊥) → (csd (at′ i) ≡ a → ⊥) → (m : ℕ) → m ≤ n
+        → lone csd rec a at′ m ≡ lone csd rec a at m
     unfolding lone
     lone-others a d z zero l = refl
     lone-others a d z (suc m) l =
@@ -141,7 +152,8 @@ module _ {P R : Type 0} (csd : P → ℕ) (rec : P → R) (c : ℕ) (t : R → B
         (λ s. rw (others m (omega arith) s, r))
 
     -- a record taken out: its place is nobody's
-    pub lone-removed : (csd (at′ i) ≡ c → ⊥) → (m : ℕ) → m ≤ n → lone csd rec c at′ m ≡ keep (λ x. not (t x)) (lone csd rec c at m)
+    pub lone-removed : (csd (at′ i) ≡ c → ⊥) → (m : ℕ) → m ≤ n
+        → lone csd rec c at′ m ≡ keep (λ x. not (t x)) (lone csd rec c at m)
     unfolding lone keep
     lone-removed z zero l = refl
     lone-removed z (suc m) l =
@@ -154,7 +166,8 @@ module _ {P R : Type 0} (csd : P → ℕ) (rec : P → R) (c : ℕ) (t : R → B
         (λ e. rw (others m (omega arith) s, e, r)))
 
     -- a record changed: its place stays the depository's
-    pub lone-changed : (g : R → R) → csd (at′ i) ≡ c → rec (at′ i) ≡ g (rec (at i)) → (m : ℕ) → m ≤ n → lone csd rec c at′ m ≡ alter (λ x. cond (t x) (g x) x) (lone csd rec c at m)
+    pub lone-changed : (g : R → R) → csd (at′ i) ≡ c → rec (at′ i) ≡ g (rec (at i)) → (m : ℕ) → m ≤ n
+        → lone csd rec c at′ m ≡ alter (λ x. cond (t x) (g x) x) (lone csd rec c at m)
     unfolding lone alter
     lone-changed g z f zero l = refl
     lone-changed g z f (suc m) l =
@@ -167,7 +180,9 @@ module _ {P R : Type 0} (csd : P → ℕ) (rec : P → R) (c : ℕ) (t : R → B
         (λ e. rw (others m (omega arith) s, e, r)))
 
 -- Every place altered as its record is: g done to each place is h done to each record of a's.
-pub lone-altered : {P R : Type 0} (csd : P → ℕ) (rec : P → R) (a : ℕ) (h : R → R) (at at′ : ℕ → P) (n : ℕ) → ((k : ℕ) → k < n → csd (at′ k) ≡ csd (at k)) → ((k : ℕ) → k < n → csd (at k) ≡ a → rec (at′ k) ≡ h (rec (at k))) → lone csd rec a at′ n ≡ alter h (lone csd rec a at n)
+pub lone-altered : {P R : Type 0} (csd : P → ℕ) (rec : P → R) (a : ℕ) (h : R → R) (at at′ : ℕ → P) (n : ℕ)
+    → ((k : ℕ) → k < n → csd (at′ k) ≡ csd (at k)) → ((k : ℕ) → k < n → csd (at k) ≡ a → rec (at′ k) ≡ h (rec (at k)))
+    → lone csd rec a at′ n ≡ alter h (lone csd rec a at n)
 unfolding lone alter
 lone-altered csd rec a h at at′ zero o f = refl
 lone-altered csd rec a h at at′ (suc n) o f =

@@ -31,7 +31,8 @@ numbers-zeros [] n at j = refl
 numbers-zeros (w ∷ ws) n at j = ap₂ (λ (x : ℕ) (l : List ℕ). x ∷ l) (number-zeros w n at j) (numbers-zeros ws n at (j + size w))
 
 -- Where every place is free, a depository's list is empty.
-pub lone-none : {P R : Type 0} (csd : P → ℕ) (rec : P → R) (a : ℕ) (at : ℕ → P) (n : ℕ) → 1 ≤ a → ((k : ℕ) → csd (at k) ≡ 0) → lone csd rec a at n ≡ []
+pub lone-none : {P R : Type 0} (csd : P → ℕ) (rec : P → R) (a : ℕ) (at : ℕ → P) (n : ℕ) → 1 ≤ a
+    → ((k : ℕ) → csd (at k) ≡ 0) → lone csd rec a at n ≡ []
 unfolding lone
 lone-none csd rec a at zero l h = refl
 lone-none csd rec a at (suc n) l h = rw (ne-eqb (csd (at n)) a (λ e. omega (arith, h n))) (lone-none csd rec a at n l h)

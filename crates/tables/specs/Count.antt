@@ -1,5 +1,5 @@
--- Counts and folds over a list of records and over the places of a table. A count knows no order: what the meaning asks of a book is
--- asked by counts, or by a fold that depends on counts alone. Assumes nothing.
+-- Counts and folds over a list of records and over the places of a table. A count knows no order: what the meaning asks
+-- of a book is asked by counts, or by a fold that depends on counts alone. Assumes nothing.
 use Prim.Native.Nat.{ℕ, zero, suc, _+_, min}
 use mathlib.Core.Path.{_≡_}
 use mathlib.Core.Bool.{Bool, true, false, _&&_, not, cond}

@@ -1,4 +1,5 @@
--- A table of numbers addressed by key: what one pass over the places of a table of records leaves in it. Assumes nothing.
+-- A table of numbers addressed by key: what one pass over the places of a table of records leaves in it. Assumes
+-- nothing.
 use Prim.Native.Nat.{ℕ, zero, suc, _<_}
 use mathlib.Core.Path.{_≡_}
 use mathlib.Core.Bool.{Bool, _&&_, cond}
@@ -30,7 +31,8 @@ module _ {P : Type 0} (csd : P → ℕ) (a : ℕ) (at : ℕ → P) (key : P → 
   unfoldable pub leasts : (P → ℕ) → ℕ → ℕ → ℕ → ℕ
   leasts f size n k = cond (ltb k size) (leastBelow (λ i. cond (hits k i) (f (at i)) 0) n) 0
 
--- the table after one place, where y stands: if it is a's and on, step changes the entry of its key; nothing past the end
+-- the table after one place, where y stands: if it is a's and on, step changes the entry of its key; nothing past the
+-- end
 unfoldable pub afterPlace : {P : Type 0} → (P → ℕ) → ℕ → (P → ℕ) → (P → Bool) → (P → ℕ → ℕ) → P → List ℕ → List ℕ
 afterPlace csd a key on step y t = cond (eqb (csd y) a && on y) (set t (key y) (step y (getD t (key y) 0))) t
 

@@ -14,5 +14,5 @@ eight-passed-spec =
     (λ c. search needs)
     (λ c. search needs)
     (λ c κs. search needs)
-    (λ c. eight-passed (c .before .before .before .before .args .b .now) _ _ (c .before .before .before .before .args .a) _ _ _ (c .first-of-eight .ensures) (c .before .before .address .ensures .0))
+    (λ c. eight-passed (c .before .before .before .before .args .b .now) _ _ (c .before .before .before .before .args .a) _ _ _ (c .first-of-eight .ensures) (c .before .before .address .ensures))
     (λ c. (omega arith, λ j low high. absurd (omega arith))))

@@ -26,12 +26,12 @@ next-spec =
     (λ c κs. search needs)
     (λ c.
     next-at _ _ _ _ (c .before .before .before .before .loop .inv .0) (c .before .before .before .loop-test .taken) (c .before .before .before .before .loop .inv .1)
-    (own-place (c .before .before .before .before .before .before .before .args .b .now) _ _ _ _ _ _ (c .before .byte-at .ensures) (c .before .before .address .ensures .0) (c .if1 .taken)))
+    (own-place (c .before .before .before .before .before .before .before .args .b .now) _ _ _ _ _ _ (c .before .byte-at .ensures) (c .before .before .address .ensures) (c .if1 .taken)))
     (λ c. omega arith)
     (λ c. omega arith)
     (λ c. (
       omega arith,
       passed-more _ _ _ (c .before .before .before .before .loop .inv .1)
-          (other-place (c .before .before .before .before .before .before .before .args .b .now) _ _ _ _ _ _ (c .before .byte-at .ensures) (c .before .before .address .ensures .0) (c .if1 .left)),
+          (other-place (c .before .before .before .before .before .before .before .args .b .now) _ _ _ _ _ _ (c .before .byte-at .ensures) (c .before .before .address .ensures) (c .if1 .left)),
     ))
     (λ c. next-none _ _ _ _ (omega arith) (c .before .loop .inv .1)))

@@ -11,4 +11,4 @@ address-spec =
     (tie.spec
     (λ c. omega (arith, area (c .args .i) (c .args .width) (omega arith) (omega arith)))
     (λ c. omega (arith, area (c .args .i) (c .args .width) (omega arith) (omega arith)))
-    (λ c. (refl, omega (arith, area (c .args .i) (c .args .width) (omega arith) (omega arith)))))
+    (λ c. refl))

@@ -27,7 +27,7 @@ first-difference-spec =
     (λ c. omega arith)
     (λ c. omega arith)
     (λ c. omega arith)
-    (λ c. search (differ-at, needs))
+    (λ c. differ-at _ _ _ (c .before .before .loop .inv .1) (c .if1 .taken) (search needs) (search needs))
     (λ c. omega arith)
     (λ c. omega arith)
     (λ c. (omega arith, below-more _ _ (c .before .before .loop .inv .1) (c .if1 .left)))

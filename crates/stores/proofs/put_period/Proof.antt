@@ -20,4 +20,4 @@ put-period-spec =
     let s1 = s2 .before .before .before .before in
     let s0 = s1 .before .before .before .before in
     let a = s0 .before .before in
-    period-put _ _ _ _ _ _ _ (a .before .before .args .r) (s3 .put-days .ensures) (s2 .put-two .ensures) (s1 .put-three .ensures) (s0 .put-pair .ensures) (a .address .ensures .0)))
+    period-put _ _ _ _ _ _ _ (a .before .before .args .r) (s3 .put-days .ensures) (s2 .put-two .ensures) (s1 .put-three .ensures) (s0 .put-pair .ensures) (a .address .ensures)))

@@ -21,4 +21,4 @@ put-rule-spec =
     let s1 = s2 .before .before .before .before in
     let s0 = s1 .before .before .before .before .before in
     let a = s0 .before .before in
-    rule-put _ _ _ _ _ _ _ (a .before .before .args .r) _ (s3 .put-days .ensures) (s2 .put-two .ensures) (s1 .put-one .ensures) (s1 .before .wide .ensures .0) (s0 .put-head .ensures) (a .address .ensures .0)))
+    rule-put _ _ _ _ _ _ _ (a .before .before .args .r) _ (s3 .put-days .ensures) (s2 .put-two .ensures) (s1 .put-one .ensures) (s1 .before .wide .ensures .0) (s0 .put-head .ensures) (a .address .ensures)))

@@ -16,4 +16,4 @@ put-type-spec =
     let s1 = c .before .before in
     let s0 = s1 .before .before .before .before in
     let a = s0 .before .before in
-    type-put _ _ _ _ _ (a .before .before .args .r) (s1 .put-days .ensures) (s0 .put-head .ensures) (a .address .ensures .0)))
+    type-put _ _ _ _ _ (a .before .before .args .r) (s1 .put-days .ensures) (s0 .put-head .ensures) (a .address .ensures)))

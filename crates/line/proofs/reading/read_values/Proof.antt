@@ -60,7 +60,7 @@ use Rattle.fields.proofs.LineReader.next as next
 use Rattle.fields.proofs.LineReader.next.Symbol as next-def
 use Rattle.fields.proofs.LineReader.next.Symbol.{name as #next}
 use Rattle.fields.proofs.LineReader.next.Met as next-thm
-use Rattle.line.specs.Table.{formsAt, Counted}
+use Rattle.line.specs.Table.{rows, formsAt, Counted}
 use Rattle.line.specs.Line.{firstRead, putAt, inRow, valuesOf}
 use Rattle.line.specs.declared.reading.Values.{Values}
 use Rattle.tables.proofs.Walk.{whiles}
@@ -140,7 +140,7 @@ module _ {M : Type 1} (𝓤 : URA M) (H : Heap 𝓤) (A : Atoms 𝓤) (mem : Mem
     next : Triple 𝓤 (C #next) Next
     with : Triple 𝓤 (C #with) With
 
-module _ {M : Type 1} (𝓤 : URA M) (H : Heap 𝓤) (A : Atoms 𝓤) (W : Given 𝓤 H A) (mem : Memory → SProp 𝓤) (run : Routine → Fun 𝓤) (κ : Lft) (q : Share) (s : RefT (List ℕ)) (p : ℕ) (p-fits : p < 2 ^ 8) (p-few : p < 10) (st : ℕ) (st-fits : st < 2 ^ 64) where
+module _ {M : Type 1} (𝓤 : URA M) (H : Heap 𝓤) (A : Atoms 𝓤) (W : Given 𝓤 H A) (mem : Memory → SProp 𝓤) (run : Routine → Fun 𝓤) (κ : Lft) (q : Share) (s : RefT (List ℕ)) (p : ℕ) (p-fits : p < 2 ^ 8) (p-few : p < rows) (st : ℕ) (st-fits : st < 2 ^ 64) where
   abbrev l : List ℕ
   l = s .now
 
