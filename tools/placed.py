@@ -1,6 +1,8 @@
 #!/usr/bin/env python3
 """Writes that a store at one place keeps every place free or a depository's, for each table (crates/edits/proofs/Placed.antt).
 Usage: placed.py (in the repository's root), then rt fmt."""
+from wrap import wrap
+
 T = [("type", "RestrictionType"), ("rule", "Rule"), ("row", "Row"), ("period", "Period")]
 names = [n for n, *_ in T]
 out = """-- A store keeps every place free or a depository's. Written by tools/placed.py.
@@ -50,8 +52,7 @@ for n, S in T:
     ten = "length (r .values) ≡ 10 → " if n == "row" else ""
     v = "v " if n == "row" else ""
     out += f"""
-pub {n}-placed : (b : List ℕ) (i : ℕ) (r : {S}) → i < {n}Places → {ten}Hold {n}Widths ({n}Numbers r)
-    → length b ≡ bookSize → ({n}Zero r || within 1 8 (r .csd)) ≡ true → allPlaced b ≡ true → allPlaced (put{P} b i r) ≡ true
+pub {n}-placed : (b : List ℕ) (i : ℕ) (r : {S}) → i < {n}Places → {ten}Hold {n}Widths ({n}Numbers r) → length b ≡ bookSize → ({n}Zero r || within 1 8 (r .csd)) ≡ true → allPlaced b ≡ true → allPlaced (put{P} b i r) ≡ true
 unfolding allPlaced
 {n}-placed b i r l {v}h s o e =
     four _ _ _ _
@@ -64,4 +65,4 @@ unfolding allPlaced
         else:
             out += f"""    (placed-same (λ x. x .csd) {m}Zero ({m}At b) ({m}At (put{P} b i r)) {m}Places (search ands) ({m}-by-{n} b i r l))
 """
-open("crates/edits/proofs/Placed.antt", "w").write(out)
+open("crates/edits/proofs/Placed.antt", "w").write(wrap(out))
