@@ -1,10 +1,9 @@
 -- What the commands of each letter show, from what the calls ensure; and which letter an arm of the match on the byte
 -- is for.
-use Prim.Native.Nat.{ℕ, zero, suc, _+_, _%_}
-use mathlib.Core.Path.{_≡_, refl, ap, sym, _∙_}
+use Prim.Native.Nat.{ℕ, _%_}
+use mathlib.Core.Path.{_≡_, refl, ap, _∙_}
 use mathlib.Core.Bool.{Bool, false, not, cond, _&&_, _||_, and-true}
 use mathlib.Core.List.{List, [], _∷_, map}
-use native.Mathlib.Omega.{arith}
 use lib.Dec.{eqb, ltb}
 use lib.ListN.{getD, replicate}
 use borrow.Author.Tests.{ne-eqb}
@@ -19,7 +18,7 @@ use Rattle.places.specs.declared.RestrictionType.{RestrictionType}
 use Rattle.places.specs.declared.Rule.{Rule}
 use Rattle.places.specs.declared.Row.{Row}
 use Rattle.places.specs.declared.Period.{Period}
-use Rattle.commands.specs.Asked.{askedBy, asked, whatOf, rowBeside, coded, orQuestion, letterFor, commandFrom}
+use Rattle.commands.specs.Asked.{askedBy, asked, rowBeside, coded, orQuestion, letterFor, commandFrom}
 use Rattle.commands.specs.declared.Question.{Question}
 use Rattle.commands.specs.declared.What.{What}
 use Rattle.commands.specs.declared.What.the-variants as What

@@ -2,7 +2,6 @@
 -- Assumes nothing.
 -- No position of a line's numbers is known here: the meaning's `commandOf` alone knows them.
 use Prim.Native.Nat.{ℕ, _%_}
-use mathlib.Core.Bool.{Bool, not, cond, _&&_, _||_}
 use mathlib.Core.List.{List, [], _∷_}
 use mathlib.Core.Option.{Option, some, none}
 use lib.ListN.{replicate}
@@ -10,8 +9,6 @@ use Rattle.meaning.specs.Forms.{Letter, letterQ, Shape, shapes, hasLetter, firs
 use Rattle.meaning.specs.Records as M
 use Rattle.meaning.specs.Records.{_!_, commandOf}
 use Rattle.places.specs.Layout.{zeroRow}
-use Rattle.places.specs.declared.RestrictionType.{RestrictionType}
-use Rattle.places.specs.declared.Rule.{Rule}
 use Rattle.places.specs.declared.Row.{Row}
 use Rattle.places.specs.declared.Period.{Period}
 use Rattle.records.specs.Said.{typeOf, ruleOf, rowOf, periodOf}

@@ -138,7 +138,7 @@ module _ (c n o s new : ℕ) (b : List ℕ) where
         ∙ cases (carried c n o s new (rowAt b k)) (λ e. rw e) (λ e. rw e)
 
     pub rows-carried : rowsOf c (carryRows c n o s new b rowPlaces)
-            ≡ change (ofRule n o s) (E.rowMoved new) (rowsOf c b)
+        ≡ change (ofRule n o s) (E.rowMoved new) (rowsOf c b)
     unfolding rowsOf rowOf carried change
     rows-carried =
         lone-altered (λ r. r .csd) rowOf c (λ x. cond (ofRule n o s x) (E.rowMoved new x) x) (rowAt b) (rowAt (carryRows c n o s new b rowPlaces)) rowPlaces same-csd

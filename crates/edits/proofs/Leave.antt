@@ -6,7 +6,7 @@ use mathlib.Core.List.{List}
 use native.Mathlib.Omega.{arith}
 use lib.ListN.{length}
 use borrow.Author.Tests.{lt-ltb, leb-false, not-false}
-use Rattle.tables.specs.Count.{has, every}
+use Rattle.tables.specs.Count.{has}
 use Rattle.tables.proofs.Lone.{every-at}
 use Rattle.tables.proofs.Lists.{has-true}
 use Rattle.meaning.specs.Records as M

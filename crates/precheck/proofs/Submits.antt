@@ -1,8 +1,8 @@
 -- What each return of `reply`, `take`, `answer` and `submit` shows.
 use Prim.Native.Nat.{ℕ, zero, suc, _%_, _≤_}
 use mathlib.Core.Path.{_≡_, refl, ap, sym, _∙_}
-use mathlib.Core.Bool.{Bool, true, false, not, _||_, or-true, false≢true}
-use mathlib.Core.List.{List, []}
+use mathlib.Core.Bool.{Bool, true, false, not, or-true, false≢true}
+use mathlib.Core.List.{List}
 use native.Mathlib.Omega.{arith}
 use lib.Dec.{eqb}
 use borrow.Author.Tests.{eq-eqb, ne-eqb, not-true, not-false}
@@ -12,16 +12,14 @@ use Rattle.meaning.specs.Records as M
 use Rattle.meaning.specs.Records.{_!_, commandOf}
 use Rattle.meaning.specs.Reading.{Reading, refused, asks, wrong, numbersRead, unlessWrong, reading}
 use Rattle.meaning.specs.Refusals.{refusal}
-use Rattle.meaning.specs.Edits.{edited}
 use Rattle.meaning.specs.Lone.{reply, unless, taken, afterReading, step, isQuestion, keepsRead, keeps, names, depository}
 use Rattle.meaning.specs.SameBook.{SameBook}
-use Rattle.meaning.specs.Sound.{fits, soundLone}
+use Rattle.meaning.specs.Sound.{soundLone}
 use Rattle.meaning.specs.declared.Answer.{Answer}
 use Rattle.meaning.specs.declared.Answer.the-variants.{Taken, Refused, Judged}
-use Rattle.meaning.proofs.Shapes.{Ranged}
 use Rattle.meaning.proofs.Ranges.{reading-ranged, reading-fits}
 use Rattle.meaning.proofs.Names.{reading-csd, reading-names, reading-depository, names-depository}
-use Rattle.commands.specs.Asked.{questionOf, asked, whatOf, coded, letterFor, commandFrom}
+use Rattle.commands.specs.Asked.{asked, whatOf, coded, letterFor}
 use Rattle.commands.specs.declared.Question.{Question}
 use Rattle.commands.specs.declared.What.{What}
 use Rattle.commands.specs.declared.What.the-variants as What
