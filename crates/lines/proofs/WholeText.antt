@@ -12,7 +12,7 @@ use Rattle.tables.specs.Count.{has}
 use Rattle.tables.proofs.Counts.{cases}
 use Rattle.tables.proofs.Lists.{has-cons}
 use Rattle.meaning.specs.Fields.{before, wellMade}
-use Rattle.meaning.specs.Reading.{reading}
+use Rattle.meaning.specs.Reading.{numbersRead}
 use Rattle.meaning.specs.Desk.{linesOf}
 use Rattle.precheck.specs.Taking.{answerBy, bytesBy}
 use Rattle.lines.specs.Ended.{inFront, ended, begun, short}
@@ -193,9 +193,9 @@ long : (l : List ℕ) → 81 ≤ length l → wellMade l ≡ false
 unfolding wellMade
 long l h = rw (lt-leb (length l) 80 (omega arith)) (cases (leb 1 (length l)) (λ e. rw e) (λ e. rw e))
 
-reading-cut : (l : List ℕ) → reading (short l) ≡ reading l
-unfolding reading
-reading-cut l =
+numbers-cut : (l : List ℕ) → numbersRead (short l) ≡ numbersRead l
+unfolding numbersRead
+numbers-cut l =
     cases (leb (length l) 81)
     (λ e. rw (take-all 81 l (leb-true (length l) 81 e)))
     (λ e.
@@ -205,11 +205,11 @@ reading-cut l =
 module _ (b l : List ℕ) where
   answer-cut : answerTo b (short l) ≡ answerTo b l
   unfolding answerBy
-  answer-cut = rw (reading-cut l)
+  answer-cut = rw (numbers-cut l)
 
   bytes-cut : bytesAfter b (short l) ≡ bytesAfter b l
   unfolding bytesBy
-  bytes-cut = rw (reading-cut l)
+  bytes-cut = rw (numbers-cut l)
 
 answers-cut : (b : List ℕ) (ls : List (List ℕ)) → answersOf b (cut ls) ≡ answersOf b ls
 unfolding answersOf cut
