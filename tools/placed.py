@@ -1,6 +1,8 @@
 #!/usr/bin/env python3
 """Writes that a store at one place keeps every place free or a depository's, for each table (crates/edits/proofs/Placed.antt).
 Usage: placed.py (in the repository's root), then rt fmt."""
+from wrap import wrap
+
 T = [("type", "RestrictionType"), ("rule", "Rule"), ("row", "Row"), ("period", "Period")]
 names = [n for n, *_ in T]
 out = """-- A store keeps every place free or a depository's. Written by tools/placed.py.
@@ -63,4 +65,4 @@ unfolding allPlaced
         else:
             out += f"""    (placed-same (λ x. x .csd) {m}Zero ({m}At b) ({m}At (put{P} b i r)) {m}Places (search ands) ({m}-by-{n} b i r l))
 """
-open("crates/edits/proofs/Placed.antt", "w").write(out)
+open("crates/edits/proofs/Placed.antt", "w").write(wrap(out))

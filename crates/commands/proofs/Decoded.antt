@@ -1,4 +1,5 @@
--- What the commands of each letter show, from what the calls ensure; and which letter an arm of the match on the byte is for.
+-- What the commands of each letter show, from what the calls ensure; and which letter an arm of the match on the byte
+-- is for.
 use Prim.Native.Nat.{ℕ, zero, suc, _+_, _%_}
 use mathlib.Core.Path.{_≡_, refl, ap, sym, _∙_}
 use mathlib.Core.Bool.{Bool, false, not, cond, _&&_, _||_, and-true}
@@ -27,7 +28,8 @@ use Rattle.commands.specs.declared.Command.{Command}
 -- ---- each letter
 
 module _ (v : List ℕ) (c : ℕ) (z : Row) where
-  pub made-T : (t : RestrictionType) (n o p : ℕ) → z ≡ zeroRow → t ≡ record { csd = c; number = n; object = o; processing = p; first = v ! 5; last = v ! 6 }
+  pub made-T : (t : RestrictionType) (n o p : ℕ) → z ≡ zeroRow
+      → t ≡ record { csd = c; number = n; object = o; processing = p; first = v ! 5; last = v ! 6 }
       → p ≡ v ! 4 % 256 → o ≡ v ! 3 % 256 → n ≡ v ! 2 % 256 → c ≡ v ! 0 % 256
       → record { csd = c; day = v ! 1; what = What.AddType t; row = z } ≡ commandFrom letterT v
   unfolding coded commandOf
@@ -65,13 +67,15 @@ module _ (v : List ℕ) (c : ℕ) (z : Row) where
   unfolding coded commandOf
   made-N e f = rw (e, f)
 
-  pub made-A : (p : Period) (k : ℕ) → z ≡ zeroRow → p ≡ record { csd = c; kind = k; number = v ! 3; code = v ! 4; first = v ! 5; last = v ! 6 }
+  pub made-A : (p : Period) (k : ℕ) → z ≡ zeroRow
+      → p ≡ record { csd = c; kind = k; number = v ! 3; code = v ! 4; first = v ! 5; last = v ! 6 }
       → k ≡ v ! 2 % 256 → c ≡ v ! 0 % 256
       → record { csd = c; day = v ! 1; what = What.AddPeriod p; row = z } ≡ commandFrom letterA v
   unfolding coded commandOf
   made-A p k e f g h = rw (e, f, g, h)
 
-  pub made-Z : (p : Period) (k : ℕ) → z ≡ zeroRow → p ≡ record { csd = c; kind = k; number = v ! 3; code = v ! 4; first = v ! 5; last = v ! 6 }
+  pub made-Z : (p : Period) (k : ℕ) → z ≡ zeroRow
+      → p ≡ record { csd = c; kind = k; number = v ! 3; code = v ! 4; first = v ! 5; last = v ! 6 }
       → k ≡ v ! 2 % 256 → c ≡ v ! 0 % 256
       → record { csd = c; day = v ! 1; what = What.EndPeriod p; row = z } ≡ commandFrom letterZ v
   unfolding coded commandOf
@@ -169,7 +173,8 @@ module _ (v : List ℕ) (n : ℕ) (x : Command) where
 -- ---- refusal 5 of a command
 
 module _ (c : Command) where
-  pub wrong-T : (r : Bool) (t : RestrictionType) (x : Bool) → c .what ≡ What.AddType t → r ≡ (x || ltb (t .last) (t .first)) → x ≡ (eqb (t .processing) 3 && eqb (t .object) 2)
+  pub wrong-T : (r : Bool) (t : RestrictionType) (x : Bool) → c .what ≡ What.AddType t
+      → r ≡ (x || ltb (t .last) (t .first)) → x ≡ (eqb (t .processing) 3 && eqb (t .object) 2)
       → r ≡ wrong (asked c)
   unfolding wrong askedBy typeOf
   wrong-T r t x e f g = rw (e, f, g)
@@ -185,7 +190,8 @@ module _ (c : Command) where
   unfolding wrong askedBy periodOf
   wrong-A p e = rw e
 
-  pub wrong-Q : (r : Bool) (q : Question) (x y z : Bool) → c .what ≡ What.Ask q → r ≡ cond (eqb (q .object) 1) x y → y ≡ not z
+  pub wrong-Q : (r : Bool) (q : Question) (x y z : Bool) → c .what ≡ What.Ask q → r ≡ cond (eqb (q .object) 1) x y
+      → y ≡ not z
       → z ≡ (eqb (q .movement) 0 && eqb (q .payment) 0) → x ≡ (eqb (q .movement) 0 || eqb (q .payment) 0) → r ≡ wrong (asked c)
   unfolding wrong askedBy
   wrong-Q r q x y z e f g h i = rw (e, f, g, h, i)

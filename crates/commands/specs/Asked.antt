@@ -1,4 +1,5 @@
--- What a command of the code asks, as the written meaning's; and the command of the code for one of the meaning's. Assumes nothing.
+-- What a command of the code asks, as the written meaning's; and the command of the code for one of the meaning's.
+-- Assumes nothing.
 -- No position of a line's numbers is known here: the meaning's `commandOf` alone knows them.
 use Prim.Native.Nat.{ℕ, _%_}
 use mathlib.Core.Bool.{Bool, not, cond, _&&_, _||_}

@@ -1,4 +1,5 @@
-// What a line asks, by name (document 01, the table of letters). The letters' module makes it of a line's letter and numbers.
+// What a line asks, by name (document 01, the table of letters). The letters' module makes it of a line's letter and
+// numbers.
 mod letters;
 
 use basics::and;

@@ -88,7 +88,8 @@ module _ (c n o s new : ℕ) (b : List ℕ) where
   unfolding carryRows
   carry-none = refl
 
-  pub carry-next : (b′ b″ : List ℕ) (m : ℕ) → b′ ≡ carryRows c n o s new b m → b″ ≡ carryRow c n o s new b′ m → b″ ≡ carryRows c n o s new b (m + 1)
+  pub carry-next : (b′ b″ : List ℕ) (m : ℕ) → b′ ≡ carryRows c n o s new b m → b″ ≡ carryRow c n o s new b′ m
+      → b″ ≡ carryRows c n o s new b (m + 1)
   carry-next b′ b″ m e f = f ∙ ap (λ z. carryRow c n o s new z m) e ∙ sym (carry-more m)
 
   module _ (size : length b ≡ bookSize) (holds : (k : ℕ) → k < rowPlaces → rowAt b k .csd ≡ c → Hold rowWidths (rowNumbers (rowWith new (rowAt b k)))) where
@@ -99,7 +100,8 @@ module _ (c n o s new : ℕ) (b : List ℕ) where
         no : false ≡ true → ⊥
         no z = let w : _≡_ {A = ℕ} 1 0 = ap (λ t. cond t 0 1) z in omega arith
 
-    passed : (m k : ℕ) → m ≤ rowPlaces → k < m → rowAt (carryRows c n o s new b m) k ≡ cond (carried c n o s new (rowAt b k)) (rowWith new (rowAt b k)) (rowAt b k)
+    passed : (m k : ℕ) → m ≤ rowPlaces → k < m
+        → rowAt (carryRows c n o s new b m) k ≡ cond (carried c n o s new (rowAt b k)) (rowWith new (rowAt b k)) (rowAt b k)
     unfolding carryRows
     passed zero k u l = absurd (omega arith)
     passed (suc m) k u l =
@@ -116,7 +118,8 @@ module _ (c n o s new : ℕ) (b : List ℕ) where
         (λ e. rw e (row-other (carryRows c n o s new b m) m (rowWith new (rowAt b m)) k z ∙ passed m k (omega arith) (omega arith)))
         (λ e. rw e (passed m k (omega arith) (omega arith))))
 
-    pub carried-placed : 1 ≤ c → c ≤ 8 → (m : ℕ) → m ≤ rowPlaces → allPlaced b ≡ true → allPlaced (carryRows c n o s new b m) ≡ true
+    pub carried-placed : 1 ≤ c → c ≤ 8 → (m : ℕ) → m ≤ rowPlaces → allPlaced b ≡ true
+        → allPlaced (carryRows c n o s new b m) ≡ true
     unfolding carryRows
     carried-placed low high zero l e = e
     carried-placed low high (suc m) l e =
@@ -134,7 +137,8 @@ module _ (c n o s new : ℕ) (b : List ℕ) where
         ap (λ r. r .csd) (passed rowPlaces k (omega arith) l)
         ∙ cases (carried c n o s new (rowAt b k)) (λ e. rw e) (λ e. rw e)
 
-    pub rows-carried : rowsOf c (carryRows c n o s new b rowPlaces) ≡ change (ofRule n o s) (E.rowMoved new) (rowsOf c b)
+    pub rows-carried : rowsOf c (carryRows c n o s new b rowPlaces)
+            ≡ change (ofRule n o s) (E.rowMoved new) (rowsOf c b)
     unfolding rowsOf rowOf carried change
     rows-carried =
         lone-altered (λ r. r .csd) rowOf c (λ x. cond (ofRule n o s x) (E.rowMoved new x) x) (rowAt b) (rowAt (carryRows c n o s new b rowPlaces)) rowPlaces same-csd
@@ -156,7 +160,8 @@ module _ (b : List ℕ) (i c n o s new : ℕ) (size : length b ≡ bookSize) (lo
   abbrev moved : List ℕ
   moved = putRule b i (ruleWith new (ruleAt b i))
 
-  moved-holds : (k : ℕ) → k < rowPlaces → rowAt moved k .csd ≡ c → Hold rowWidths (rowNumbers (rowWith new (rowAt moved k)))
+  moved-holds : (k : ℕ) → k < rowPlaces → rowAt moved k .csd ≡ c
+      → Hold rowWidths (rowNumbers (rowWith new (rowAt moved k)))
   moved-holds k l e =
       let same-row = row-by-rule b i (ruleWith new (ruleAt b i)) place k l in
       rw same-row (row-holds k l (rw same-row at e))

@@ -29,7 +29,9 @@ use Rattle.book.proofs.ListsKept.{types-by-rule, types-by-row, types-by-period,
 -- ---- D and N: the record's place is zero
 
 module _ (b : List ℕ) (i c : ℕ) (size : length b ≡ bookSize) (low : 1 ≤ c) where
-  pub rule-deleted : (n o s : ℕ) → i < rulePlaces → ruleAt b i .csd ≡ c → isRule n o s (ruleOf (ruleAt b i)) ≡ true → count (isRule n o s) (rulesOf c b) ≤ 1 → Leaves b (putRule b i zeroRule) c (edited (loneBook c b) (M.deleteRule n o s))
+  pub rule-deleted : (n o s : ℕ) → i < rulePlaces → ruleAt b i .csd ≡ c → isRule n o s (ruleOf (ruleAt b i)) ≡ true
+      → count (isRule n o s) (rulesOf c b) ≤ 1
+      → Leaves b (putRule b i zeroRule) c (edited (loneBook c b) (M.deleteRule n o s))
   unfolding edited ruleZero
   rule-deleted n o s l own hit once =
       record {
@@ -52,7 +54,8 @@ module _ (b : List ℕ) (i c : ℕ) (size : length b ≡ bookSize) (low : 1 ≤ 
       holds : Hold ruleWidths (ruleNumbers zeroRule)
       holds = (lit< tt, (lit< tt, (lit< tt, (lit< tt, (lit< tt, (lit< tt, (lit< tt, (lit< tt, tt))))))))
 
-  pub row-deleted : (w : M.Row) → i < rowPlaces → rowAt b i .csd ≡ c → isRow w (rowOf (rowAt b i)) ≡ true → count (isRow w) (rowsOf c b) ≤ 1 → Leaves b (putRow b i zeroRow) c (edited (loneBook c b) (M.deleteRow w))
+  pub row-deleted : (w : M.Row) → i < rowPlaces → rowAt b i .csd ≡ c → isRow w (rowOf (rowAt b i)) ≡ true
+      → count (isRow w) (rowsOf c b) ≤ 1 → Leaves b (putRow b i zeroRow) c (edited (loneBook c b) (M.deleteRow w))
   unfolding edited rowZero
   row-deleted w l own hit once =
       record {
@@ -78,7 +81,9 @@ module _ (b : List ℕ) (i c : ℕ) (size : length b ≡ bookSize) (low : 1 ≤ 
 -- ---- E and Z: another last day
 
 module _ (b : List ℕ) (i c : ℕ) (size : length b ≡ bookSize) (low : 1 ≤ c) (high : c ≤ 8) where
-  pub type-ended : (day n o d : ℕ) → i < typePlaces → typeAt b i .csd ≡ c → isType n o (typeOf (typeAt b i)) ≡ true → count (isType n o) (typesOf c b) ≤ 1 → Hold typeWidths (typeNumbers (typeEnded d (typeAt b i))) → Leaves b (putType b i (typeEnded d (typeAt b i))) c (edited (loneBook c b) (M.endType day n o d))
+  pub type-ended : (day n o d : ℕ) → i < typePlaces → typeAt b i .csd ≡ c → isType n o (typeOf (typeAt b i)) ≡ true
+      → count (isType n o) (typesOf c b) ≤ 1 → Hold typeWidths (typeNumbers (typeEnded d (typeAt b i)))
+      → Leaves b (putType b i (typeEnded d (typeAt b i))) c (edited (loneBook c b) (M.endType day n o d))
   unfolding edited typeOf
   type-ended day n o d l own hit once h =
       let r = typeEnded d (typeAt b i) in
@@ -99,7 +104,10 @@ module _ (b : List ℕ) (i c : ℕ) (size : length b ≡ bookSize) (low : 1 ≤ 
         };
       }
 
-  pub period-ended : (day κ n o f d : ℕ) → i < periodPlaces → periodAt b i .csd ≡ c → isPeriod κ n o f (periodOf (periodAt b i)) ≡ true → count (isPeriod κ n o f) (periodsOf c b) ≤ 1 → Hold periodWidths (periodNumbers (periodEnded d (periodAt b i))) → Leaves b (putPeriod b i (periodEnded d (periodAt b i))) c (edited (loneBook c b) (M.endPeriod day κ n o f d))
+  pub period-ended : (day κ n o f d : ℕ) → i < periodPlaces → periodAt b i .csd ≡ c
+      → isPeriod κ n o f (periodOf (periodAt b i)) ≡ true → count (isPeriod κ n o f) (periodsOf c b) ≤ 1
+      → Hold periodWidths (periodNumbers (periodEnded d (periodAt b i)))
+      → Leaves b (putPeriod b i (periodEnded d (periodAt b i))) c (edited (loneBook c b) (M.endPeriod day κ n o f d))
   unfolding edited periodOf
   period-ended day κ n o f d l own hit once h =
       let r = periodEnded d (periodAt b i) in
@@ -123,7 +131,9 @@ module _ (b : List ℕ) (i c : ℕ) (size : length b ≡ bookSize) (low : 1 ≤ 
 -- ---- T, R, M and A: a record more at a free place
 
 module _ (b : List ℕ) (i : ℕ) (size : length b ≡ bookSize) where
-  pub rule-added : (day : ℕ) (r : Rule) → i < rulePlaces → ruleAt b i .csd ≡ 0 → 1 ≤ r .csd → r .csd ≤ 8 → Hold ruleWidths (ruleNumbers r) → Leaves b (putRule b i r) (r .csd) (edited (loneBook (r .csd) b) (M.addRule day (ruleOf r)))
+  pub rule-added : (day : ℕ) (r : Rule) → i < rulePlaces → ruleAt b i .csd ≡ 0 → 1 ≤ r .csd → r .csd ≤ 8
+      → Hold ruleWidths (ruleNumbers r)
+      → Leaves b (putRule b i r) (r .csd) (edited (loneBook (r .csd) b) (M.addRule day (ruleOf r)))
   unfolding edited
   rule-added day r l free low high h =
       record {
@@ -143,7 +153,9 @@ module _ (b : List ℕ) (i : ℕ) (size : length b ≡ bookSize) where
         };
       }
 
-  pub row-added : (r : Row) → i < rowPlaces → rowAt b i .csd ≡ 0 → 1 ≤ r .csd → r .csd ≤ 8 → length (r .values) ≡ 10 → Hold rowWidths (rowNumbers r) → Leaves b (putRow b i r) (r .csd) (edited (loneBook (r .csd) b) (M.addRow (rowOf r)))
+  pub row-added : (r : Row) → i < rowPlaces → rowAt b i .csd ≡ 0 → 1 ≤ r .csd → r .csd ≤ 8 → length (r .values) ≡ 10
+      → Hold rowWidths (rowNumbers r)
+      → Leaves b (putRow b i r) (r .csd) (edited (loneBook (r .csd) b) (M.addRow (rowOf r)))
   unfolding edited
   row-added r l free low high v h =
       record {
@@ -163,7 +175,9 @@ module _ (b : List ℕ) (i : ℕ) (size : length b ≡ bookSize) where
         };
       }
 
-  pub type-added : (day : ℕ) (r : RestrictionType) → i < typePlaces → typeAt b i .csd ≡ 0 → 1 ≤ r .csd → r .csd ≤ 8 → Hold typeWidths (typeNumbers r) → Leaves b (putType b i r) (r .csd) (edited (loneBook (r .csd) b) (M.addType day (typeOf r)))
+  pub type-added : (day : ℕ) (r : RestrictionType) → i < typePlaces → typeAt b i .csd ≡ 0 → 1 ≤ r .csd → r .csd ≤ 8
+      → Hold typeWidths (typeNumbers r)
+      → Leaves b (putType b i r) (r .csd) (edited (loneBook (r .csd) b) (M.addType day (typeOf r)))
   unfolding edited
   type-added day r l free low high h =
       record {
@@ -183,7 +197,9 @@ module _ (b : List ℕ) (i : ℕ) (size : length b ≡ bookSize) where
         };
       }
 
-  pub period-added : (day : ℕ) (r : Period) → i < periodPlaces → periodAt b i .csd ≡ 0 → 1 ≤ r .csd → r .csd ≤ 8 → Hold periodWidths (periodNumbers r) → Leaves b (putPeriod b i r) (r .csd) (edited (loneBook (r .csd) b) (M.addPeriod day (periodOf r)))
+  pub period-added : (day : ℕ) (r : Period) → i < periodPlaces → periodAt b i .csd ≡ 0 → 1 ≤ r .csd → r .csd ≤ 8
+      → Hold periodWidths (periodNumbers r)
+      → Leaves b (putPeriod b i r) (r .csd) (edited (loneBook (r .csd) b) (M.addPeriod day (periodOf r)))
   unfolding edited
   period-added day r l free low high h =
       record {

@@ -42,25 +42,29 @@ module _ (b : List ℕ) (c : ℕ) (g : GoodBook b) (low : 1 ≤ c) (high : c ≤
 
   -- ---- T, R, M, A
 
-  leaves-type : (d : ℕ) (t : M.TypeRecord) → typeFits t ≡ true → length (typesOf c b) < M.typeQuota → Leaves b (editIn b c (M.addType d t)) c (edited (loneBook c b) (M.addType d t))
+  leaves-type : (d : ℕ) (t : M.TypeRecord) → typeFits t ≡ true → length (typesOf c b) < M.typeQuota
+      → Leaves b (editIn b c (M.addType d t)) c (edited (loneBook c b) (M.addType d t))
   unfolding editIn storeType typeOf
   leaves-type d t f l =
       let e = free-type b g c low high l in
       rw (lt-ltb (freeType b) typePlaces (e .0)) (type-added b (freeType b) (g .size) d (typeIn c t) (e .0) (e .1) low high (type-hold (typeIn c t) high f))
 
-  leaves-rule : (d : ℕ) (r : M.Rule) → ruleFits r ≡ true → length (rulesOf c b) < M.ruleQuota → Leaves b (editIn b c (M.addRule d r)) c (edited (loneBook c b) (M.addRule d r))
+  leaves-rule : (d : ℕ) (r : M.Rule) → ruleFits r ≡ true → length (rulesOf c b) < M.ruleQuota
+      → Leaves b (editIn b c (M.addRule d r)) c (edited (loneBook c b) (M.addRule d r))
   unfolding editIn storeRule ruleOf
   leaves-rule d r f l =
       let e = free-rule b noRow g c low high l in
       rw (lt-ltb (freeRule b) rulePlaces (e .0)) (rule-added b (freeRule b) (g .size) d (ruleIn c r) (e .0) (e .1) low high (rule-hold (ruleIn c r) high f))
 
-  leaves-row : (w : M.Row) → rowFits w ≡ true → length (rowsOf c b) < M.rowQuota → Leaves b (editIn b c (M.addRow w)) c (edited (loneBook c b) (M.addRow w))
+  leaves-row : (w : M.Row) → rowFits w ≡ true → length (rowsOf c b) < M.rowQuota
+      → Leaves b (editIn b c (M.addRow w)) c (edited (loneBook c b) (M.addRow w))
   unfolding editIn storeRow rowOf
   leaves-row w f l =
       let e = free-row b noRow g c low high l in
       rw (lt-ltb (freeRow b) rowPlaces (e .0)) (row-added b (freeRow b) (g .size) (rowIn c w) (e .0) (e .1) low high (row-ten w f) (row-hold (rowIn c w) high (row-ten w f) f))
 
-  leaves-period : (d : ℕ) (p : M.Period) → periodFits p ≡ true → length (periodsOf c b) < M.periodQuota → Leaves b (editIn b c (M.addPeriod d p)) c (edited (loneBook c b) (M.addPeriod d p))
+  leaves-period : (d : ℕ) (p : M.Period) → periodFits p ≡ true → length (periodsOf c b) < M.periodQuota
+      → Leaves b (editIn b c (M.addPeriod d p)) c (edited (loneBook c b) (M.addPeriod d p))
   unfolding editIn storePeriod periodOf
   leaves-period d p f l =
       let e = free-period b g c low high l in
@@ -68,14 +72,16 @@ module _ (b : List ℕ) (c : ℕ) (g : GoodBook b) (low : 1 ≤ c) (high : c ≤
 
   -- ---- D, N
 
-  leaves-rule-out : (n o s : ℕ) → has (isRule n o s) (rulesOf c b) ≡ true → Leaves b (editIn b c (M.deleteRule n o s)) c (edited (loneBook c b) (M.deleteRule n o s))
+  leaves-rule-out : (n o s : ℕ) → has (isRule n o s) (rulesOf c b) ≡ true
+      → Leaves b (editIn b c (M.deleteRule n o s)) c (edited (loneBook c b) (M.deleteRule n o s))
   unfolding editIn deletedRule storeRule ruleMeets
   leaves-rule-out n o s h =
       let f = found-rule b c (Rules.Named n o s) noRow (has-true (ruleMeets (Rules.Named n o s) noRow) (rulesOf c b) h) in
       rw (lt-ltb (rulePlace b c (Rules.Named n o s) noRow) rulePlaces (f .0))
       (rule-deleted b (rulePlace b c (Rules.Named n o s) noRow) c (g .size) low n o s (f .0) (f .1) (f .2) (own .ruleOnce n o s))
 
-  leaves-row-out : (w : M.Row) → has (isRow w) (rowsOf c b) ≡ true → Leaves b (editIn b c (M.deleteRow w)) c (edited (loneBook c b) (M.deleteRow w))
+  leaves-row-out : (w : M.Row) → has (isRow w) (rowsOf c b) ≡ true
+      → Leaves b (editIn b c (M.deleteRow w)) c (edited (loneBook c b) (M.deleteRow w))
   unfolding editIn deletedRow storeRow rowMeets
   leaves-row-out w h =
       let f = found-row b c Rows.Same w (has-true (rowMeets Rows.Same w) (rowsOf c b) h) in
@@ -100,7 +106,8 @@ module _ (b : List ℕ) (c : ℕ) (g : GoodBook b) (low : 1 ≤ c) (high : c ≤
   unfolding periodsOf
   period-fits = every-at (λ r. r .csd) periodOf c periodFits (periodAt b) periodPlaces (own .periodsFit)
 
-  leaves-type-end : (d n o last : ℕ) → holds day last ≡ true → has (isType n o) (typesOf c b) ≡ true → Leaves b (editIn b c (M.endType d n o last)) c (edited (loneBook c b) (M.endType d n o last))
+  leaves-type-end : (d n o last : ℕ) → holds day last ≡ true → has (isType n o) (typesOf c b) ≡ true
+      → Leaves b (editIn b c (M.endType d n o last)) c (edited (loneBook c b) (M.endType d n o last))
   unfolding editIn endedType storeType typeMeets
   leaves-type-end d n o last e h =
       let i = typePlace b c (Types.Named n o) in
@@ -109,7 +116,9 @@ module _ (b : List ℕ) (c : ℕ) (g : GoodBook b) (low : 1 ≤ c) (high : c ≤
       (type-ended b i c (g .size) low high d n o last (f .0) (f .1) (f .2) (own .typeOnce n o)
       (type-ended-holds last (typeAt b i) (omega (arith, f .1)) (type-fits i (f .0) (f .1)) e))
 
-  leaves-period-end : (d κ n o first last : ℕ) → holds day last ≡ true → has (isPeriod κ n o first) (periodsOf c b) ≡ true → Leaves b (editIn b c (M.endPeriod d κ n o first last)) c (edited (loneBook c b) (M.endPeriod d κ n o first last))
+  leaves-period-end : (d κ n o first last : ℕ) → holds day last ≡ true
+      → has (isPeriod κ n o first) (periodsOf c b) ≡ true
+      → Leaves b (editIn b c (M.endPeriod d κ n o first last)) c (edited (loneBook c b) (M.endPeriod d κ n o first last))
   unfolding editIn endedPeriod storePeriod periodMeets
   leaves-period-end d κ n o first last e h =
       let i = periodPlace b c (Periods.Named κ n o first) in
@@ -120,7 +129,8 @@ module _ (b : List ℕ) (c : ℕ) (g : GoodBook b) (low : 1 ≤ c) (high : c ≤
 
   -- ---- O
 
-  leaves-reorder : (n o s new : ℕ) → holds sequenceForm new ≡ true → has (isRule n o s) (rulesOf c b) ≡ true → Leaves b (editIn b c (M.reorder n o s new)) c (edited (loneBook c b) (M.reorder n o s new))
+  leaves-reorder : (n o s new : ℕ) → holds sequenceForm new ≡ true → has (isRule n o s) (rulesOf c b) ≡ true
+      → Leaves b (editIn b c (M.reorder n o s new)) c (edited (loneBook c b) (M.reorder n o s new))
   unfolding editIn reorderedRule storeRule ruleMeets reorderIn
   leaves-reorder n o s new e h =
       let i = rulePlace b c (Rules.Named n o s) noRow in
@@ -142,8 +152,10 @@ module _ (b : List ℕ) (c : ℕ) (g : GoodBook b) (low : 1 ≤ c) (high : c ≤
 
   -- ---- every command
 
-  -- An edit that is not refused leaves, of its depository, the meaning's edited book, and of every other depository the equal book.
-  pub edit-leaves : (k : M.Command) → fits k ≡ true → refusal (loneBook c b) k ≡ 0 → Leaves b (editIn b c k) c (edited (loneBook c b) k)
+  -- An edit that is not refused leaves, of its depository, the meaning's edited book, and of every other depository the
+  -- equal book.
+  pub edit-leaves : (k : M.Command) → fits k ≡ true → refusal (loneBook c b) k ≡ 0
+      → Leaves b (editIn b c k) c (edited (loneBook c b) k)
   unfolding conditions fits
   edit-leaves (M.addType d t) f e =
       leaves-type d t f (leb-false M.typeQuota (length (typesOf c b)) (command-not-refused (loneBook c b) (M.addType d t) e 10))

@@ -36,7 +36,8 @@ module _ {P : Type 0} (csd : P → ℕ) (free : P → Bool) (at at′ : ℕ → 
       all-put (λ k. free (at′ k) || within 1 8 (csd (at′ k))) n
       (λ k l. rw (h k l) (all-at (λ k. free (at k) || within 1 8 (csd (at k))) n all k l))
 
-  pub placed-put : (i : ℕ) → ((k : ℕ) → (k ≡ i → ⊥) → at′ k ≡ at k) → (free (at′ i) || within 1 8 (csd (at′ i))) ≡ true → placed csd free at′ n ≡ true
+  pub placed-put : (i : ℕ) → ((k : ℕ) → (k ≡ i → ⊥) → at′ k ≡ at k) → (free (at′ i) || within 1 8 (csd (at′ i))) ≡ true
+      → placed csd free at′ n ≡ true
   unfolding placed
   placed-put i h e =
       all-put (λ k. free (at′ k) || within 1 8 (csd (at′ k))) n
@@ -49,7 +50,9 @@ of-one t c l h = rw (le-leb 1 c l, le-leb c 8 h) (or-true t)
 four : (a b c d : Bool) → a ≡ true → b ≡ true → c ≡ true → d ≡ true → ((a && b) && (c && d)) ≡ true
 four a b c d w x y z = rw (w, x, y, z)
 
-pub type-placed : (b : List ℕ) (i : ℕ) (r : RestrictionType) → i < typePlaces → Hold typeWidths (typeNumbers r) → length b ≡ bookSize → (typeZero r || within 1 8 (r .csd)) ≡ true → allPlaced b ≡ true → allPlaced (putType b i r) ≡ true
+pub type-placed : (b : List ℕ) (i : ℕ) (r : RestrictionType) → i < typePlaces → Hold typeWidths (typeNumbers r)
+    → length b ≡ bookSize → (typeZero r || within 1 8 (r .csd)) ≡ true → allPlaced b ≡ true
+    → allPlaced (putType b i r) ≡ true
 unfolding allPlaced
 type-placed b i r l h s o e =
     four _ _ _ _
@@ -59,7 +62,9 @@ type-placed b i r l h s o e =
     (placed-same (λ x. x .csd) rowZero (rowAt b) (rowAt (putType b i r)) rowPlaces (search ands) (row-by-type b i r l))
     (placed-same (λ x. x .csd) periodZero (periodAt b) (periodAt (putType b i r)) periodPlaces (search ands) (period-by-type b i r l))
 
-pub rule-placed : (b : List ℕ) (i : ℕ) (r : Rule) → i < rulePlaces → Hold ruleWidths (ruleNumbers r) → length b ≡ bookSize → (ruleZero r || within 1 8 (r .csd)) ≡ true → allPlaced b ≡ true → allPlaced (putRule b i r) ≡ true
+pub rule-placed : (b : List ℕ) (i : ℕ) (r : Rule) → i < rulePlaces → Hold ruleWidths (ruleNumbers r)
+    → length b ≡ bookSize → (ruleZero r || within 1 8 (r .csd)) ≡ true → allPlaced b ≡ true
+    → allPlaced (putRule b i r) ≡ true
 unfolding allPlaced
 rule-placed b i r l h s o e =
     four _ _ _ _
@@ -69,7 +74,9 @@ rule-placed b i r l h s o e =
     (placed-same (λ x. x .csd) rowZero (rowAt b) (rowAt (putRule b i r)) rowPlaces (search ands) (row-by-rule b i r l))
     (placed-same (λ x. x .csd) periodZero (periodAt b) (periodAt (putRule b i r)) periodPlaces (search ands) (period-by-rule b i r l))
 
-pub row-placed : (b : List ℕ) (i : ℕ) (r : Row) → i < rowPlaces → length (r .values) ≡ 10 → Hold rowWidths (rowNumbers r) → length b ≡ bookSize → (rowZero r || within 1 8 (r .csd)) ≡ true → allPlaced b ≡ true → allPlaced (putRow b i r) ≡ true
+pub row-placed : (b : List ℕ) (i : ℕ) (r : Row) → i < rowPlaces → length (r .values) ≡ 10
+    → Hold rowWidths (rowNumbers r) → length b ≡ bookSize → (rowZero r || within 1 8 (r .csd)) ≡ true
+    → allPlaced b ≡ true → allPlaced (putRow b i r) ≡ true
 unfolding allPlaced
 row-placed b i r l v h s o e =
     four _ _ _ _
@@ -79,7 +86,9 @@ row-placed b i r l v h s o e =
     (rw (row-back b i r v h (omega arith)) o))
     (placed-same (λ x. x .csd) periodZero (periodAt b) (periodAt (putRow b i r)) periodPlaces (search ands) (period-by-row b i r l))
 
-pub period-placed : (b : List ℕ) (i : ℕ) (r : Period) → i < periodPlaces → Hold periodWidths (periodNumbers r) → length b ≡ bookSize → (periodZero r || within 1 8 (r .csd)) ≡ true → allPlaced b ≡ true → allPlaced (putPeriod b i r) ≡ true
+pub period-placed : (b : List ℕ) (i : ℕ) (r : Period) → i < periodPlaces → Hold periodWidths (periodNumbers r)
+    → length b ≡ bookSize → (periodZero r || within 1 8 (r .csd)) ≡ true → allPlaced b ≡ true
+    → allPlaced (putPeriod b i r) ≡ true
 unfolding allPlaced
 period-placed b i r l h s o e =
     four _ _ _ _

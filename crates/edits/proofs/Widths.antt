@@ -24,25 +24,29 @@ pub row-ten : (w : M.Row) → rowFits w ≡ true → length (w .values) ≡ 10
 unfolding rowFits
 row-ten w e = holds-length tenValues (w .values) (search ands)
 
-pub type-ended-holds : (d : ℕ) (r : RestrictionType) → r .csd ≤ 8 → typeFits (typeOf r) ≡ true → holds day d ≡ true → Hold typeWidths (typeNumbers (typeEnded d r))
+pub type-ended-holds : (d : ℕ) (r : RestrictionType) → r .csd ≤ 8 → typeFits (typeOf r) ≡ true → holds day d ≡ true
+    → Hold typeWidths (typeNumbers (typeEnded d r))
 unfolding holds
 type-ended-holds d r l f e =
     let h = type-hold r l f in
     (h .0, (h .1 .0, (h .1 .1 .0, (h .1 .1 .1 .0, (h .1 .1 .1 .1 .0, (omega (arith, day-most d e), tt))))))
 
-pub period-ended-holds : (d : ℕ) (r : Period) → r .csd ≤ 8 → periodFits (periodOf r) ≡ true → holds day d ≡ true → Hold periodWidths (periodNumbers (periodEnded d r))
+pub period-ended-holds : (d : ℕ) (r : Period) → r .csd ≤ 8 → periodFits (periodOf r) ≡ true → holds day d ≡ true
+    → Hold periodWidths (periodNumbers (periodEnded d r))
 unfolding holds
 period-ended-holds d r l f e =
     let h = period-hold r l f in
     (h .0, (h .1 .0, (h .1 .1 .0, (h .1 .1 .1 .0, (h .1 .1 .1 .1 .0, (omega (arith, day-most d e), tt))))))
 
-pub rule-with-holds : (new : ℕ) (r : Rule) → r .csd ≤ 8 → ruleFits (ruleOf r) ≡ true → holds sequenceForm new ≡ true → Hold ruleWidths (ruleNumbers (ruleWith new r))
+pub rule-with-holds : (new : ℕ) (r : Rule) → r .csd ≤ 8 → ruleFits (ruleOf r) ≡ true → holds sequenceForm new ≡ true
+    → Hold ruleWidths (ruleNumbers (ruleWith new r))
 unfolding holds
 rule-with-holds new r l f e =
     let h = rule-hold r l f in
     (h .0, (h .1 .0, (h .1 .1 .0, (omega (arith, most 99 new e), h .1 .1 .1 .1))))
 
-pub row-with-holds : (new : ℕ) (r : Row) → r .csd ≤ 8 → length (r .values) ≡ 10 → rowFits (rowOf r) ≡ true → holds sequenceForm new ≡ true → Hold rowWidths (rowNumbers (rowWith new r))
+pub row-with-holds : (new : ℕ) (r : Row) → r .csd ≤ 8 → length (r .values) ≡ 10 → rowFits (rowOf r) ≡ true
+    → holds sequenceForm new ≡ true → Hold rowWidths (rowNumbers (rowWith new r))
 unfolding holds
 row-with-holds new r l v f e =
     let h = row-hold r l v f in

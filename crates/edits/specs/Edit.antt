@@ -1,5 +1,6 @@
 -- The nine edits on the bytes of the shared book, over the meaning's command. Assumes nothing.
--- The papers leave the place of a record free: a record more goes to a place that is free, one that is named is changed where it stands.
+-- The papers leave the place of a record free: a record more goes to a place that is free, one that is named is changed
+-- where it stands.
 use Prim.Native.Nat.{ℕ}
 use mathlib.Core.Bool.{cond}
 use mathlib.Core.List.{List}

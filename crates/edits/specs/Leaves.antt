@@ -1,4 +1,5 @@
--- What an edit of depository c leaves of the lone books: c's has exactly the records of m, every other's is what it was. Assumes nothing.
+-- What an edit of depository c leaves of the lone books: c's has exactly the records of m, every other's is what it
+-- was. Assumes nothing.
 use Prim.Native.Nat.{ℕ, _≤_}
 use mathlib.Core.Path.{_≡_}
 use mathlib.Core.Bool.{true}

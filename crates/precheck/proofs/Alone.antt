@@ -28,20 +28,24 @@ same-trans b c d s t =
 
 module _ (a : ℕ) (low : 1 ≤ a) (high : a ≤ 8) where
   -- what the promise says where the line names a, and where it does not
-  shared-answer : (b line : List ℕ) → depository line ≡ a → sound b ≡ true → answerIn b line ≡ step (loneBook a b) line .answer
+  shared-answer : (b line : List ℕ) → depository line ≡ a → sound b ≡ true
+      → answerIn b line ≡ step (loneBook a b) line .answer
   unfolding answerIn
   shared-answer b line d s = rw (s, d)
 
-  named-after : (b b′ line : List ℕ) → names a line ≡ true → SameBook (loneBook a b′) (loneAfter a b line) → SameBook (loneBook a b′) (step (loneBook a b) line .book)
+  named-after : (b b′ line : List ℕ) → names a line ≡ true → SameBook (loneBook a b′) (loneAfter a b line)
+      → SameBook (loneBook a b′) (step (loneBook a b) line .book)
   unfolding loneAfter
   named-after b b′ line e h = rw e at h
 
-  other-after : (b b′ line : List ℕ) → names a line ≡ false → SameBook (loneBook a b′) (loneAfter a b line) → SameBook (loneBook a b′) (loneBook a b)
+  other-after : (b b′ line : List ℕ) → names a line ≡ false → SameBook (loneBook a b′) (loneAfter a b line)
+      → SameBook (loneBook a b′) (loneBook a b)
   unfolding loneAfter
   other-after b b′ line e h = rw e at h
 
   -- A run from a sound book in which a's records are those of m.
-  from : {b : List ℕ} {lines : List (List ℕ)} {as′ : List Answer} → Run b lines as′ → (m : M.Book) → sound b ≡ true → SameBook (loneBook a b) m → answersTo a lines as′ ≡ answersFrom m (keep (names a) lines)
+  from : {b : List ℕ} {lines : List (List ℕ)} {as′ : List Answer} → Run b lines as′ → (m : M.Book) → sound b ≡ true
+      → SameBook (loneBook a b) m → answersTo a lines as′ ≡ answersFrom m (keep (names a) lines)
   unfolding answersTo keep answersFrom
   from done m s h = refl
   from (sent {book = b} {next = b′} {line = line} {answer = x} t r) m s h =

@@ -23,6 +23,7 @@ use Rattle.meaning.proofs.Ranges.{reading-ranged, reading-fits}
 use Rattle.meaning.proofs.Names.{reading-csd, reading-names, reading-depository, names-depository}
 use Rattle.commands.specs.Asked.{questionOf, asked, whatOf, coded, letterFor, commandFrom}
 use Rattle.commands.specs.declared.Question.{Question}
+use Rattle.commands.specs.declared.What.{What}
 use Rattle.commands.specs.declared.What.the-variants as What
 use Rattle.commands.specs.declared.Command.{Command}
 use Rattle.commands.proofs.Decoded.{letter-for}
@@ -41,18 +42,24 @@ use Rattle.precheck.specs.Taking.{refusalOf, replyTo, answerOf, bytesAft
 
 -- ---- the returns of reply and take
 
-pub replied-question : (b : List ℕ) (c : Command) (q : Question) (v : _) → c .what ≡ What.Ask q → v ≡ judgedBy b q → Judged v ≡ replyTo b (c .what)
+pub replied : (b : List ℕ) (c : Command) (w : What) → c .what ≡ w → Taken ≡ replyTo b w → Taken ≡ replyTo b (c .what)
+replied b c w e f = rw e f
+
+pub replied-question : (b : List ℕ) (c : Command) (q : Question) (v : _) → c .what ≡ What.Ask q → v ≡ judgedBy b q
+    → Judged v ≡ replyTo b (c .what)
 unfolding replyTo
 replied-question b c q v e f = rw (e, f)
 
 module _ (b : List ℕ) (c : Command) where
-  pub took-refusal : (n : ℕ) (x : Answer) → (n ≡ 0 → ⊥) → x ≡ Refused n → n ≡ refusal (loneBook (c .csd) b) (asked c) → Took b c x b
+  pub took-refusal : (n : ℕ) (x : Answer) → (n ≡ 0 → ⊥) → x ≡ Refused n → n ≡ refusal (loneBook (c .csd) b) (asked c)
+      → Took b c x b
   unfolding answerOf bytesAfter refusalOf
   took-refusal n x f g h =
       let r : eqb (refusal (loneBook (c .csd) b) (asked c)) 0 ≡ false = ap (λ k. eqb k 0) (sym h) ∙ ne-eqb n 0 f in
       record { answered = rw r (g ∙ ap Refused h); bytes = rw r }
 
-  pub took-edit : (b′ : List ℕ) (n : ℕ) (x : Answer) → n ≡ 0 → b′ ≡ editIn b (c .csd) (asked c) → x ≡ replyTo b (c .what) → n ≡ refusal (loneBook (c .csd) b) (asked c)
+  pub took-edit : (b′ : List ℕ) (n : ℕ) (x : Answer) → n ≡ 0 → b′ ≡ editIn b (c .csd) (asked c)
+      → x ≡ replyTo b (c .what) → n ≡ refusal (loneBook (c .csd) b) (asked c)
       → Took b c x b′
   unfolding answerOf bytesAfter refusalOf
   took-edit b′ n x f g h k =
@@ -61,7 +68,8 @@ module _ (b : List ℕ) (c : Command) where
 
 -- ---- what is replied is the meaning's
 
-reply-coded : (b : List ℕ) (c d : ℕ) (k : M.Command) → Narrow d k → soundLone (loneBook c b) ≡ true → replyTo b (whatOf c k) ≡ reply (loneBook c b) k
+reply-coded : (b : List ℕ) (c d : ℕ) (k : M.Command) → Narrow d k → soundLone (loneBook c b) ≡ true
+    → replyTo b (whatOf c k) ≡ reply (loneBook c b) k
 unfolding replyTo whatOf reply
 reply-coded b c d (M.addType e t) n s = refl
 reply-coded b c d (M.endType e type object last) n s = refl
@@ -107,7 +115,8 @@ reply-edit m (M.ask r) q = absurd (false≢true (sym q))
 same-book : (m : M.Book) → SameBook m m
 same-book m = record { types = λ p. refl; rules = λ p. refl; rows = λ p. refl; periods = λ p. refl }
 
-pub submitted-unsound : (b line : List ℕ) (t : Bool) (x : Answer) → t ≡ sound b → not t ≡ true → x ≡ Refused 1 → Submitted b line x b
+pub submitted-unsound : (b line : List ℕ) (t : Bool) (x : Answer) → t ≡ sound b → not t ≡ true → x ≡ Refused 1
+    → Submitted b line x b
 unfolding answerIn
 submitted-unsound b line t x e f g =
     let s : sound b ≡ false = sym e ∙ not-true t f in
@@ -119,7 +128,8 @@ submitted-unsound b line t x e f g =
     }
 
 -- a line that is refused 2 to 5 leaves every lone book
-submitted-unread : (b line : List ℕ) (n : ℕ) (x : Answer) → sound b ≡ true → reading line ≡ refused n → x ≡ Refused n → Submitted b line x b
+submitted-unread : (b line : List ℕ) (n : ℕ) (x : Answer) → sound b ≡ true → reading line ≡ refused n → x ≡ Refused n
+    → Submitted b line x b
 unfolding answerIn loneAfter step afterReading
 submitted-unread b line n x s e f =
     record {
@@ -159,7 +169,8 @@ module _ (b line : List ℕ) (l : Letter) (v : List ℕ) (s : sound b ≡ true) 
   other : (a : ℕ) → 1 ≤ a → a ≤ 8 → (c ≡ a → ⊥) → names a line ≡ false
   other a u h d = cases (names a line) (λ y. absurd (d (sym dep ∙ names-depository a line u h y))) (λ y. y)
 
-  submitted-by : (x : Answer) (b′ : List ℕ) → x ≡ taken m k .answer → (leftAsFound b line ≡ true → b′ ≡ b) → sound b′ ≡ true → SameBook (loneBook c b′) (taken m k .book)
+  submitted-by : (x : Answer) (b′ : List ℕ) → x ≡ taken m k .answer → (leftAsFound b line ≡ true → b′ ≡ b)
+      → sound b′ ≡ true → SameBook (loneBook c b′) (taken m k .book)
       → ((a : ℕ) → 1 ≤ a → (c ≡ a → ⊥) → loneBook a b′ ≡ loneBook a b) → Submitted b line x b′
   unfolding answerIn loneAfter
   submitted-by x b′ f t g own others =
@@ -190,7 +201,8 @@ module _ (b line : List ℕ) (l : Letter) (v : List ℕ) (s : sound b ≡ true) 
   unfolding leftAsFound keeps keepsRead
   left-question r h = rw (s, dep, e, eq-eqb (refusal m k) 0 r) at h
 
-  submitted-taken : (x : Answer) (b′ : List ℕ) → refusal m k ≡ 0 → x ≡ reply m k → b′ ≡ editIn b c k → Submitted b line x b′
+  submitted-taken : (x : Answer) (b′ : List ℕ) → refusal m k ≡ 0 → x ≡ reply m k → b′ ≡ editIn b c k
+      → Submitted b line x b′
   unfolding taken unless
   submitted-taken x b′ r f i =
       let fit = reading-fits line l v e in
@@ -324,6 +336,7 @@ answers-any b line s =
     (λ e. rw (ne-eqb (l .refusal) 0 e) (answers-unread b line true (Refused (l .refusal)) l refl refl e refl))
 
 pub keeps-promise : (b line : List ℕ) → Submitted b line (answerBy (sound b) b line) (bytesBy (sound b) b line)
+unfolding answerBy bytesBy
 keeps-promise b line =
     cases (sound b)
     (λ s. rw s (answers-any b line s .promise (sym s)))

@@ -1,5 +1,6 @@
--- DEMAND 3: one depository alone. For every list of lines sent one by one to a book just emptied: the answers to the lines that name
--- depository A are exactly those of A's lone book, which is fed only these lines. Stated here, proved in proofs/Alone. Assumes nothing.
+-- DEMAND 3: one depository alone. For every list of lines sent one by one to a book just emptied: the answers to the
+-- lines that name depository A are exactly those of A's lone book, which is fed only these lines. Stated here, proved
+-- in proofs/Alone. Assumes nothing.
 use Prim.Native.Nat.{ℕ, _≤_}
 use mathlib.Core.Path.{_≡_}
 use mathlib.Core.Bool.{cond}
@@ -30,7 +31,8 @@ OneAlone =
     → (a : ℕ) → 1 ≤ a → a ≤ 8
     → answersTo a lines answers ≡ loneAnswers a lines
 
--- Its consequence for two runs: where the lines that name a depository are alike, so are its answers, whatever the other lines.
+-- Its consequence for two runs: where the lines that name a depository are alike, so are its answers, whatever the
+-- other lines.
 abbrev pub TwoRuns : Type 0
 TwoRuns =
     (lent lent′ emptied emptied′ : List ℕ) → Emptied lent emptied 0 → Emptied lent′ emptied′ 0

@@ -11,8 +11,8 @@ use Rattle.meaning.specs.declared.Answer.the-variants.{Refused}
 use Rattle.book.specs.Lone.{loneBook}
 use Rattle.book.specs.Sound.{sound}
 
--- 1 over a book that isn't sound; else the meaning's answer over the lone book of the depository that the line names. A line that names none
--- is refused 2 to 5, whatever the book.
+-- 1 over a book that isn't sound; else the meaning's answer over the lone book of the depository that the line names. A
+-- line that names none is refused 2 to 5, whatever the book.
 unfoldable pub answerIn : List ℕ → List ℕ → Answer
 answerIn b line = cond (sound b) (step (loneBook (depository line) b) line .answer) (Refused 1)
 
@@ -20,8 +20,8 @@ answerIn b line = cond (sound b) (step (loneBook (depository line) b) line .answ
 unfoldable pub loneAfter : ℕ → List ℕ → List ℕ → M.Book
 loneAfter c b line = cond (names c line) (step (loneBook c b) line .book) (loneBook c b)
 
--- a refused line, or a question: every line over a book that isn't sound is refused, and over a sound one the lone book of the depository
--- that the line names tells
+-- a refused line, or a question: any line over a book that isn't sound; over a sound one as the lone book of the
+-- depository that the line names tells
 unfoldable pub leftAsFound : List ℕ → List ℕ → Bool
 leftAsFound b line = not (sound b) || keeps (loneBook (depository line) b) line
 

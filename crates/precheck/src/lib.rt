@@ -1,4 +1,5 @@
-// The pre-check's entry: a lent book is emptied, and a line is submitted to it. Nothing is required of the bytes of either.
+// The pre-check's entry: a lent book is emptied, and a line is submitted to it. Nothing is required of the bytes of
+// either.
 ghost use mathlib.Core.Path.{_≡_};
 ghost use Rattle.book.specs.Emptied.{Emptied};
 ghost use Rattle.book.specs.Sound.{sound};
@@ -27,10 +28,18 @@ fn reply(book: &[u8], c: Command) -> Answer
     ensures { λ r. ⌜ r ≡ replyTo (now (book .entry)) (c .what) ⌝ }
 {
     let what = c.what;
-    if let What::Ask(q) = what {
-        return Answer::Judged(judge(book, q));
+    match what {
+        What::AddType(_) => Answer::Taken,
+        What::EndType(_, _, _) => Answer::Taken,
+        What::AddRule(_) => Answer::Taken,
+        What::Reorder(_) => Answer::Taken,
+        What::DeleteRule => Answer::Taken,
+        What::AddRow => Answer::Taken,
+        What::DeleteRow => Answer::Taken,
+        What::AddPeriod(_) => Answer::Taken,
+        What::EndPeriod(_) => Answer::Taken,
+        What::Ask(q) => Answer::Judged(judge(book, q)),
     }
-    Answer::Taken
 }
 
 // What a command does to a book: the first refusal that holds is the answer, and the book stays; else the reply, and

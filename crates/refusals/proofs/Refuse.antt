@@ -24,44 +24,73 @@ use Rattle.commands.specs.declared.Command.{Command}
 use Rattle.book.specs.Lone.{typesOf, rulesOf, rowsOf, periodsOf, loneBook}
 
 module _ (b : List ℕ) (c d x y z u : ℕ) where
-  pub refused-add-type : (r : RestrictionType) (held full : Bool) → x ≡ cond (leb (r .first) d) 6 y → y ≡ cond held 8 z → z ≡ cond full 10 0 → full ≡ leb M.typeQuota (length (typesOf c b)) → held ≡ has (typeMeets (Types.Named (r .number) (r .object))) (typesOf c b) → x ≡ refusal (loneBook c b) (M.addType d (typeOf r))
+  pub refused-add-type : (r : RestrictionType) (held full : Bool) → x ≡ cond (leb (r .first) d) 6 y → y ≡ cond held 8 z
+      → z ≡ cond full 10 0 → full ≡ leb M.typeQuota (length (typesOf c b))
+      → held ≡ has (typeMeets (Types.Named (r .number) (r .object))) (typesOf c b)
+      → x ≡ refusal (loneBook c b) (M.addType d (typeOf r))
   unfolding refusal typeMeets typeOf
   refused-add-type r held full e f g h i = rw (e, f, g, h, i)
 
-  pub refused-end-type : (n o last : ℕ) (held out none : Bool) → x ≡ cond (ltb last d) 6 y → y ≡ cond none 7 z → z ≡ cond out 9 0 → none ≡ not held → out ≡ has (typeMeets (Types.Outside n o last)) (typesOf c b) → held ≡ has (typeMeets (Types.Named n o)) (typesOf c b) → x ≡ refusal (loneBook c b) (M.endType d n o last)
+  pub refused-end-type : (n o last : ℕ) (held out none : Bool) → x ≡ cond (ltb last d) 6 y → y ≡ cond none 7 z
+      → z ≡ cond out 9 0 → none ≡ not held → out ≡ has (typeMeets (Types.Outside n o last)) (typesOf c b)
+      → held ≡ has (typeMeets (Types.Named n o)) (typesOf c b) → x ≡ refusal (loneBook c b) (M.endType d n o last)
   unfolding refusal typeMeets
   refused-end-type n o last held out none e f g h i j = rw (e, f, g, h, i, j)
 
-  pub refused-add-rule : (r : Rule) (w : M.Row) (typed held full none : Bool) → x ≡ cond (leb (r .first) d) 6 y → y ≡ cond none 7 z → none ≡ not typed → z ≡ cond held 8 u → u ≡ cond full 10 0 → full ≡ leb M.ruleQuota (length (rulesOf c b)) → held ≡ has (ruleMeets (Rules.Named (r .number) (r .object) (r .sequence)) w) (rulesOf c b) → typed ≡ has (typeMeets (Types.Named (r .number) (r .object))) (typesOf c b) → x ≡ refusal (loneBook c b) (M.addRule d (ruleOf r))
+  pub refused-add-rule : (r : Rule) (w : M.Row) (typed held full none : Bool) → x ≡ cond (leb (r .first) d) 6 y
+      → y ≡ cond none 7 z → none ≡ not typed → z ≡ cond held 8 u → u ≡ cond full 10 0
+      → full ≡ leb M.ruleQuota (length (rulesOf c b))
+      → held ≡ has (ruleMeets (Rules.Named (r .number) (r .object) (r .sequence)) w) (rulesOf c b)
+      → typed ≡ has (typeMeets (Types.Named (r .number) (r .object))) (typesOf c b)
+      → x ≡ refusal (loneBook c b) (M.addRule d (ruleOf r))
   unfolding refusal typeMeets ruleMeets ruleOf
   refused-add-rule r w typed held full none e f g h i j k l = rw (e, f, g, h, i, j, k, l)
 
-  pub refused-reorder : (n o s new : ℕ) (w : M.Row) (held taken none : Bool) → x ≡ cond none 7 y → y ≡ cond taken 8 0 → none ≡ not held → taken ≡ has (ruleMeets (Rules.Named n o new) w) (rulesOf c b) → held ≡ has (ruleMeets (Rules.Named n o s) w) (rulesOf c b) → x ≡ refusal (loneBook c b) (M.reorder n o s new)
+  pub refused-reorder : (n o s new : ℕ) (w : M.Row) (held taken none : Bool) → x ≡ cond none 7 y → y ≡ cond taken 8 0
+      → none ≡ not held → taken ≡ has (ruleMeets (Rules.Named n o new) w) (rulesOf c b)
+      → held ≡ has (ruleMeets (Rules.Named n o s) w) (rulesOf c b) → x ≡ refusal (loneBook c b) (M.reorder n o s new)
   unfolding refusal ruleMeets
   refused-reorder n o s new w held taken none e f g h i = rw (e, f, g, h, i)
 
-  pub refused-delete-rule : (w : Row) (held rows none : Bool) → x ≡ cond none 7 y → y ≡ cond rows 9 0 → none ≡ not held → rows ≡ has (rowMeets Rows.OfRule (rowOf w)) (rowsOf c b) → held ≡ has (ruleMeets (Rules.Named (w .number) (w .object) (w .sequence)) (rowOf w)) (rulesOf c b) → x ≡ refusal (loneBook c b) (M.deleteRule (w .number) (w .object) (w .sequence))
+  pub refused-delete-rule : (w : Row) (held rows none : Bool) → x ≡ cond none 7 y → y ≡ cond rows 9 0 → none ≡ not held
+      → rows ≡ has (rowMeets Rows.OfRule (rowOf w)) (rowsOf c b)
+      → held ≡ has (ruleMeets (Rules.Named (w .number) (w .object) (w .sequence)) (rowOf w)) (rulesOf c b)
+      → x ≡ refusal (loneBook c b) (M.deleteRule (w .number) (w .object) (w .sequence))
   unfolding refusal ruleMeets rowMeets rowOf
   refused-delete-rule w held rows none e f g h i = rw (e, f, g, h, i)
 
-  pub refused-add-row : (w : Row) (ruled held other full none : Bool) → x ≡ cond none 7 y → y ≡ cond held 8 z → none ≡ not ruled → z ≡ cond other 9 u → u ≡ cond full 10 0 → full ≡ leb M.rowQuota (length (rowsOf c b)) → other ≡ has (ruleMeets Rules.Other (rowOf w)) (rulesOf c b) → held ≡ has (rowMeets Rows.Same (rowOf w)) (rowsOf c b) → ruled ≡ has (ruleMeets (Rules.Named (w .number) (w .object) (w .sequence)) (rowOf w)) (rulesOf c b) → x ≡ refusal (loneBook c b) (M.addRow (rowOf w))
+  pub refused-add-row : (w : Row) (ruled held other full none : Bool) → x ≡ cond none 7 y → y ≡ cond held 8 z
+      → none ≡ not ruled → z ≡ cond other 9 u → u ≡ cond full 10 0 → full ≡ leb M.rowQuota (length (rowsOf c b))
+      → other ≡ has (ruleMeets Rules.Other (rowOf w)) (rulesOf c b)
+      → held ≡ has (rowMeets Rows.Same (rowOf w)) (rowsOf c b)
+      → ruled ≡ has (ruleMeets (Rules.Named (w .number) (w .object) (w .sequence)) (rowOf w)) (rulesOf c b)
+      → x ≡ refusal (loneBook c b) (M.addRow (rowOf w))
   unfolding refusal ruleMeets rowMeets rowOf
   refused-add-row w ruled held other full none e f g h i j k l m = rw (e, f, g, h, i, j, k, l, m)
 
-  pub refused-delete-row : (w : Row) (held none : Bool) → x ≡ cond none 7 0 → none ≡ not held → held ≡ has (rowMeets Rows.Same (rowOf w)) (rowsOf c b) → x ≡ refusal (loneBook c b) (M.deleteRow (rowOf w))
+  pub refused-delete-row : (w : Row) (held none : Bool) → x ≡ cond none 7 0 → none ≡ not held
+      → held ≡ has (rowMeets Rows.Same (rowOf w)) (rowsOf c b) → x ≡ refusal (loneBook c b) (M.deleteRow (rowOf w))
   unfolding refusal rowMeets
   refused-delete-row w held none e f g = rw (e, f, g)
 
-  pub refused-add-period : (p : Period) (clashes full : Bool) → x ≡ cond (leb (p .first) d) 6 y → y ≡ cond clashes 8 z → z ≡ cond full 10 0 → full ≡ leb M.periodQuota (length (periodsOf c b)) → clashes ≡ has (periodMeets (Periods.Clash p)) (periodsOf c b) → x ≡ refusal (loneBook c b) (M.addPeriod d (periodOf p))
+  pub refused-add-period : (p : Period) (clashes full : Bool) → x ≡ cond (leb (p .first) d) 6 y → y ≡ cond clashes 8 z
+      → z ≡ cond full 10 0 → full ≡ leb M.periodQuota (length (periodsOf c b))
+      → clashes ≡ has (periodMeets (Periods.Clash p)) (periodsOf c b)
+      → x ≡ refusal (loneBook c b) (M.addPeriod d (periodOf p))
   unfolding refusal periodMeets periodOf
   refused-add-period p clashes full e f g h i = rw (e, f, g, h, i)
 
-  pub refused-end-period : (p : Period) (held out none : Bool) → x ≡ cond (ltb (p .last) d) 6 y → y ≡ cond none 7 z → z ≡ cond out 9 0 → none ≡ not held → out ≡ has (periodMeets (Periods.Outside (p .kind) (p .number) (p .code) (p .first) (p .last))) (periodsOf c b) → held ≡ has (periodMeets (Periods.Named (p .kind) (p .number) (p .code) (p .first))) (periodsOf c b) → x ≡ refusal (loneBook c b) (M.endPeriod d (p .kind) (p .number) (p .code) (p .first) (p .last))
+  pub refused-end-period : (p : Period) (held out none : Bool) → x ≡ cond (ltb (p .last) d) 6 y → y ≡ cond none 7 z
+      → z ≡ cond out 9 0 → none ≡ not held
+      → out ≡ has (periodMeets (Periods.Outside (p .kind) (p .number) (p .code) (p .first) (p .last))) (periodsOf c b)
+      → held ≡ has (periodMeets (Periods.Named (p .kind) (p .number) (p .code) (p .first))) (periodsOf c b)
+      → x ≡ refusal (loneBook c b) (M.endPeriod d (p .kind) (p .number) (p .code) (p .first) (p .last))
   unfolding refusal periodMeets
   refused-end-period p held out none e f g h i j = rw (e, f, g, h, i, j)
 
 -- ---- of a command
 
-pub refused-as : (b : List ℕ) (c : Command) (w : What) (r : ℕ) → c .what ≡ w → r ≡ refusal (loneBook (c .csd) b) (askedBy (c .day) (c .row) w)
+pub refused-as : (b : List ℕ) (c : Command) (w : What) (r : ℕ) → c .what ≡ w
+    → r ≡ refusal (loneBook (c .csd) b) (askedBy (c .day) (c .row) w)
     → r ≡ refusal (loneBook (c .csd) b) (asked c)
 refused-as b c w r e f = rw e f

@@ -1,4 +1,5 @@
--- `refusals::refuse_add_row` meets its contract; facts are named, so that a wrong one is refused for certain. Assumes nothing.
+-- `refusals::refuse_add_row` meets its contract; facts are named, so that a wrong one is refused for certain. Assumes
+-- nothing.
 use Rattle.refusals.proofs.Refuse.{refused-add-row}
 use borrow.Author.Needs.{needs}
 use Rattle.refusals.proofs.refuse_add_row.Statement.{statement}
