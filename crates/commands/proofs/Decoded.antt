@@ -11,7 +11,7 @@ use Rattle.tables.proofs.Counts.{cases}
 use Rattle.meaning.specs.Text.{bytes, same}
 use Rattle.meaning.specs.Forms.{Letter, letterT, letterE, letterR, letterO, letterD, letterM, letterN, letterA, letterZ, letterQ, letterText, Shape, shapeT, shapeE, shapeR, shapeO, shapeD, shapeM, shapeN, shapeA, shapeZ, shapeQ, hasLetter, firstShape}
 use Rattle.meaning.specs.Records.{_!_, commandOf}
-use Rattle.meaning.specs.Reading.{wrong}
+use Rattle.meaning.specs.Refusals.{wrong}
 use Rattle.records.specs.Said.{typeOf, ruleOf, periodOf}
 use Rattle.places.specs.Layout.{zeroRow}
 use Rattle.places.specs.declared.RestrictionType.{RestrictionType}

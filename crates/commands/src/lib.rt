@@ -12,7 +12,7 @@ use places::RestrictionType;
 use places::Row;
 use places::Rule;
 ghost use mathlib.Core.Path.{_≡_};
-ghost use Rattle.meaning.specs.Reading.{wrong};
+ghost use Rattle.meaning.specs.Refusals.{wrong};
 ghost use Rattle.commands.specs.Asked.{asked};
 
 // A question. Role is the instructing party's type; an empty field is 0.

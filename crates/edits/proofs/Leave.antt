@@ -12,9 +12,9 @@ use Rattle.tables.proofs.Lists.{has-true}
 use Rattle.meaning.specs.Records as M
 use Rattle.meaning.specs.Keys.{isType, isRule, isRow, isPeriod}
 use Rattle.meaning.specs.Refusals.{conditions, refusal}
-use Rattle.meaning.specs.Edits.{edited}
+use Rattle.meaning.specs.Edits.{edited, fits}
 use Rattle.meaning.specs.Forms.{holds, day, sequenceForm}
-use Rattle.meaning.specs.Sound.{typeFits, ruleFits, rowFits, periodFits, fits}
+use Rattle.meaning.specs.Sound.{typeFits, ruleFits, rowFits, periodFits}
 use Rattle.meaning.proofs.First.{command-not-refused}
 use Rattle.meaning.proofs.Good.{Good, good-of-sound, period-once}
 use Rattle.places.specs.Layout.{typePlaces, rulePlaces, rowPlaces, periodPlaces, typeAt, ruleAt, rowAt, periodAt}

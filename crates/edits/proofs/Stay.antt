@@ -9,8 +9,8 @@ use borrow.Author.Tests.{eqb-true}
 use Rattle.tables.proofs.Counts.{cases-eq, ands, all-put}
 use Rattle.meaning.specs.Records as M
 use Rattle.meaning.specs.Refusals.{refusal}
-use Rattle.meaning.specs.Edits.{edited}
-use Rattle.meaning.specs.Sound.{fits, soundLone}
+use Rattle.meaning.specs.Edits.{edited, fits}
+use Rattle.meaning.specs.Sound.{soundLone}
 use Rattle.meaning.proofs.Good.{good-of-sound, sound-of-good, sound-same}
 use Rattle.meaning.proofs.Kept.{good-edited}
 use Rattle.places.specs.Layout.{bookSize}

@@ -15,12 +15,12 @@ use Rattle.meaning.specs.Forms.{Letter, holds, holdsAll, day, code, sequ
 use Rattle.meaning.specs.Records.{TypeRecord, Rule, Row, Period, Book, empty, Command, commandOf, addType, endType, addRule, reorder, deleteRule, addRow, deleteRow, addPeriod, endPeriod, ask, typeQuota, ruleQuota, rowQuota, periodQuota}
 use Rattle.meaning.specs.Keys.{isType, isRule, ofRule, isRow, isPeriod, clash, filled}
 use Rattle.meaning.specs.Refusals.{outside, typeOutside, periodOutside, otherCriteria, conditions, refusal}
-use Rattle.meaning.specs.Edits.{typeUntil, periodUntil, ruleMoved, rowMoved, edited}
+use Rattle.meaning.specs.Edits.{typeUntil, periodUntil, ruleMoved, rowMoved, edited, fits}
 use Rattle.meaning.specs.Reading.{Reading, refused, asks, reading}
 use Rattle.meaning.specs.Lone.{unless, taken, afterReading, step, after}
 use Rattle.meaning.proofs.First.{command-not-refused}
 use Rattle.meaning.proofs.Ranges.{reading-fits}
-use Rattle.meaning.specs.Sound.{daysFit, keyFits, typeFits, ruleFits, rowFits, periodFits, fits, fillsRule, soundLone}
+use Rattle.meaning.specs.Sound.{daysFit, keyFits, typeFits, ruleFits, rowFits, periodFits, fillsRule, soundLone}
 use Rattle.meaning.proofs.Good.{Good, typeAsk, typeKey, type-hit, ruleAsk, ruleKey, rule-hit, row-key, rule-key, of-key, is-rule, is-of, row-self, row-of-rule, rule-of-row, good-of-sound, sound-of-good}
 
 every-cons : {R : Type 0} (p : R → Bool) (x : R) (l : List R) → p x ≡ true → every p l ≡ true → every p (x ∷ l) ≡ true

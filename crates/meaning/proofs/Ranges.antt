@@ -13,9 +13,11 @@ use Rattle.tables.proofs.Counts.{cases, both, neither, and-r}
 use Rattle.meaning.specs.Text.{same, wordPlace, word, decimal}
 use Rattle.meaning.specs.Fields.{within, isCapital, wellMade, fields}
 use Rattle.meaning.specs.Forms.{Form, upTo, code, day, letters, oneOf, optional, isNumber, isCode, isDay, isWord, given, read, holds, holdsAll, Letter, Shape, shapeT, shapeE, shapeR, shapeO, shapeM, shapeA, shapeZ, shapes, hasLetter, hasLength, firstShape}
-use Rattle.meaning.specs.Reading.{wrong, together, readAll, Reading, refused, asks, byNumbers, byShape, byFields, numbersRead, unlessWrong, reading}
+use Rattle.meaning.specs.Reading.{together, readAll, Reading, refused, asks, byNumbers, byShape, byFields, numbersRead, unlessWrong, reading}
+use Rattle.meaning.specs.Refusals.{wrong}
 use Rattle.meaning.specs.Records.{_!_, commandOf}
-use Rattle.meaning.specs.Sound.{daysFit, keyFits, typeFits, ruleFits, rowFits, periodFits, fits}
+use Rattle.meaning.specs.Sound.{daysFit, keyFits, typeFits, ruleFits, rowFits, periodFits}
+use Rattle.meaning.specs.Edits.{fits}
 use Rattle.meaning.proofs.Shapes.{In, Ranged, by-rows, first-found}
 
 pub given-some : (t : Bool) (n m : ℕ) → given t n ≡ some m → (t ≡ true) × (n ≡ m)

@@ -1,5 +1,7 @@
--- What an accepted edit makes of a lone book (document 01, 'One depository alone'). Assumes nothing.
+-- What an accepted edit makes of a lone book (document 01, 'One depository alone'), and when what it puts in is in range. Assumes
+-- nothing.
 use Prim.Native.Nat.{ℕ}
+use mathlib.Core.Bool.{Bool, true}
 use mathlib.Core.List.{List, _∷_}
 use Rattle.tables.specs.Count.{without, change}
 use Rattle.meaning.specs.Records.{
@@ -20,6 +22,8 @@ use Rattle.meaning.specs.Records.{
   endPeriod,
   ask,
 }
+use Rattle.meaning.specs.Forms.{holds, day as dayForm, sequenceForm}
+use Rattle.meaning.specs.Sound.{typeFits, ruleFits, rowFits, periodFits}
 use Rattle.meaning.specs.Keys.{isType, isRule, ofRule, isRow, isPeriod}
 
 -- the record with another last day
@@ -75,3 +79,17 @@ edited b (addPeriod day p) = withPeriods (p ∷ b .periods) b
 edited b (endPeriod day kind number code first last) =
     withPeriods (change (isPeriod kind number code first) (periodUntil last) (b .periods)) b
 edited b (ask q) = b
+
+-- what a command would put into a book is in its range
+unfoldable pub fits : Command → Bool
+unfolding holds typeFits ruleFits rowFits periodFits
+fits (addType day t) = typeFits t
+fits (endType day type object last) = holds dayForm last
+fits (addRule day r) = ruleFits r
+fits (reorder type object sequence new) = holds sequenceForm new
+fits (deleteRule type object sequence) = true
+fits (addRow w) = rowFits w
+fits (deleteRow w) = true
+fits (addPeriod day p) = periodFits p
+fits (endPeriod day kind number code first last) = holds dayForm last
+fits (ask q) = true

@@ -2,9 +2,10 @@ pub mod Text
 pub mod Fields
 pub mod Forms
 pub mod Records
-pub mod Reading
 pub mod Keys
 pub mod Refusals
+pub mod Reading
+pub mod Sound
 pub mod Edits
 pub mod Judging
 pub mod Lone
@@ -12,5 +13,4 @@ pub mod Printing
 pub mod Desk
 pub mod Writing
 pub mod Keler
-pub mod Sound
 pub mod SameBook

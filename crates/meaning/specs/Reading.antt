@@ -1,43 +1,14 @@
 -- How a line is read: refusals 2 to 5, or its letter and the numbers of its fields. Assumes nothing.
 use Prim.Native.Nat.{ℕ}
-use mathlib.Core.Bool.{Bool, false, not, cond, _&&_, _||_}
+use mathlib.Core.Bool.{cond, _&&_}
 use mathlib.Core.List.{List, [], _∷_}
 use mathlib.Core.Option.{Option, some, none}
-use lib.Dec.{ltb, eqb}
 use lib.ListN.{length}
 use Rattle.tables.specs.Count.{has}
 use Rattle.meaning.specs.Fields.{wellMade, fields}
 use Rattle.meaning.specs.Forms.{Form, read, Letter, Shape, shapes, hasLetter, hasLength, firstShape}
-use Rattle.meaning.specs.Records.{
-  Command,
-  commandOf,
-  addType,
-  endType,
-  addRule,
-  reorder,
-  deleteRule,
-  addRow,
-  deleteRow,
-  addPeriod,
-  endPeriod,
-  ask,
-}
-
--- what no single field shows of refusal 5
-unfoldable pub wrong : Command → Bool
--- processing is 3 with object 2, or first is after last
-wrong (addType day t) = (eqb (t .processing) 3 && eqb (t .object) 2) || ltb (t .last) (t .first)
-wrong (endType day type object last) = false
-wrong (addRule day r) = ltb (r .last) (r .first)
-wrong (reorder type object sequence new) = false
-wrong (deleteRule type object sequence) = false
-wrong (addRow w) = false
-wrong (deleteRow w) = false
-wrong (addPeriod day p) = ltb (p .last) (p .first)
-wrong (endPeriod day kind number code first last) = false
--- movement and payment are filled for object 1 and empty for object 2
-wrong (ask q) =
-    cond (eqb (q .object) 1) (eqb (q .movement) 0 || eqb (q .payment) 0) (not (eqb (q .movement) 0 && eqb (q .payment) 0))
+use Rattle.meaning.specs.Records.{commandOf}
+use Rattle.meaning.specs.Refusals.{wrong}
 
 pub data Reading : Type 0 where
   refused : ℕ → Reading

@@ -1,6 +1,7 @@
--- Refusals 6 to 10, in the order of document 01's list (its 'Refused lines'). Assumes nothing.
+-- Refusal 5 as far as no single field shows it, and refusals 6 to 10 in the order of document 01's list (its 'Refused lines').
+-- Assumes nothing.
 use Prim.Native.Nat.{ℕ}
-use mathlib.Core.Bool.{Bool, not, cond, _&&_, _||_}
+use mathlib.Core.Bool.{Bool, false, not, cond, _&&_, _||_}
 use mathlib.Core.List.{List, [], _∷_}
 use lib.Dec.{leb, ltb, eqb}
 use lib.ListN.{length}
@@ -28,6 +29,22 @@ use Rattle.meaning.specs.Records.{
   periodQuota,
 }
 use Rattle.meaning.specs.Keys.{isType, isRule, ofRule, isRow, isPeriod, clash, filled}
+
+-- what no single field shows of refusal 5
+unfoldable pub wrong : Command → Bool
+-- processing is 3 with object 2, or first is after last
+wrong (addType day t) = (eqb (t .processing) 3 && eqb (t .object) 2) || ltb (t .last) (t .first)
+wrong (endType day type object last) = false
+wrong (addRule day r) = ltb (r .last) (r .first)
+wrong (reorder type object sequence new) = false
+wrong (deleteRule type object sequence) = false
+wrong (addRow w) = false
+wrong (deleteRow w) = false
+wrong (addPeriod day p) = ltb (p .last) (p .first)
+wrong (endPeriod day kind number code first last) = false
+-- movement and payment are filled for object 1 and empty for object 2
+wrong (ask q) =
+    cond (eqb (q .object) 1) (eqb (q .movement) 0 || eqb (q .payment) 0) (not (eqb (q .movement) 0 && eqb (q .payment) 0))
 
 -- the number of the first condition that holds; 0 where none does
 abbrev pub firstOf : List (ℕ × Bool) → ℕ

@@ -1,7 +1,7 @@
 -- When a lone book is sound: every record obeys document 01's ranges, keys, quotas and periods, every rule has its type, and every row its
 -- rule with that rule's criteria filled. Assumes nothing.
 use Prim.Native.Nat.{ℕ}
-use mathlib.Core.Bool.{Bool, true, not, _&&_}
+use mathlib.Core.Bool.{Bool, not, _&&_}
 use lib.Dec.{eqb, leb}
 use lib.ListN.{length}
 use Rattle.tables.specs.Count.{count, has, every}
@@ -26,17 +26,6 @@ use Rattle.meaning.specs.Records.{
   Row,
   Period,
   Book,
-  Command,
-  addType,
-  endType,
-  addRule,
-  reorder,
-  deleteRule,
-  addRow,
-  deleteRow,
-  addPeriod,
-  endPeriod,
-  ask,
   typeQuota,
   ruleQuota,
   rowQuota,
@@ -76,20 +65,6 @@ unfoldable pub periodFits : Period → Bool
 unfolding holds daysFit
 periodFits p =
     (holds kindForm (p .kind) && holds numberForm (p .number)) && (holds code (p .code) && daysFit (p .first) (p .last))
-
--- what a command would put into a book is in its range
-unfoldable pub fits : Command → Bool
-unfolding holds typeFits ruleFits rowFits periodFits
-fits (addType day′ t) = typeFits t
-fits (endType day′ type object last) = holds day last
-fits (addRule day′ r) = ruleFits r
-fits (reorder type object sequence new) = holds sequenceForm new
-fits (deleteRule type object sequence) = true
-fits (addRow w) = rowFits w
-fits (deleteRow w) = true
-fits (addPeriod day′ p) = periodFits p
-fits (endPeriod day′ kind number code′ first last) = holds day last
-fits (ask q) = true
 
 -- ---- a record in its lone book
 

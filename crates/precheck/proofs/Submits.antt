@@ -10,8 +10,8 @@ use Rattle.tables.proofs.Counts.{cases, cases-eq}
 use Rattle.meaning.specs.Forms.{Letter}
 use Rattle.meaning.specs.Records as M
 use Rattle.meaning.specs.Records.{_!_, commandOf}
-use Rattle.meaning.specs.Reading.{Reading, refused, asks, wrong, numbersRead, unlessWrong, reading}
-use Rattle.meaning.specs.Refusals.{refusal}
+use Rattle.meaning.specs.Reading.{Reading, refused, asks, numbersRead, unlessWrong, reading}
+use Rattle.meaning.specs.Refusals.{wrong, refusal}
 use Rattle.meaning.specs.Lone.{reply, unless, taken, afterReading, step, isQuestion, keepsRead, keeps, names, depository}
 use Rattle.meaning.specs.SameBook.{SameBook}
 use Rattle.meaning.specs.Sound.{soundLone}

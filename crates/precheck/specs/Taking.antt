@@ -4,8 +4,8 @@ use mathlib.Core.Path.{_≡_}
 use mathlib.Core.Bool.{Bool, cond}
 use mathlib.Core.List.{List}
 use lib.Dec.{eqb}
-use Rattle.meaning.specs.Reading.{wrong, numbersRead}
-use Rattle.meaning.specs.Refusals.{refusal}
+use Rattle.meaning.specs.Reading.{numbersRead}
+use Rattle.meaning.specs.Refusals.{wrong, refusal}
 use Rattle.meaning.specs.declared.Answer.{Answer}
 use Rattle.meaning.specs.declared.Answer.the-variants.{Taken, Refused, Judged}
 use Rattle.commands.specs.Asked.{asked, letterFor, commandFrom}

@@ -8,10 +8,10 @@ use Rattle.book_main.proofs.each_line.Statement.{statement}
 use Rattle.book_main.proofs.each_line.Tie as tie
 
 abbrev Inv-loop : tie.InvT-loop
-Inv-loop b₀ text line₀ i₀ i-end b line i = (i ≤ i-end) × (i-end ≡ length text) × (length b ≡ length b₀)
+Inv-loop b₀ text from₀ i₀ i-end b from i = (i ≤ i-end) × (i-end ≡ length text) × (length b ≡ length b₀)
 
 abbrev μ-loop : tie.MeasureT-loop
-μ-loop b₀ text line₀ i₀ i-end b line i = i-end - i
+μ-loop b₀ text from₀ i₀ i-end b from i = i-end - i
 
 pub each-line-spec : {M : Type 1} → statement M
 each-line-spec =
@@ -19,7 +19,6 @@ each-line-spec =
     (tie.spec
     Inv-loop
     μ-loop
-    (λ c κs. search needs)
     (λ c. search needs)
     (λ c κs. search needs)
     (λ c. omega arith)

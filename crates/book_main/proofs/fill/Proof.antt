@@ -9,10 +9,10 @@ use Rattle.book_main.proofs.fill.Statement.{statement}
 use Rattle.book_main.proofs.fill.Tie as tie
 
 abbrev Inv-loop : tie.InvT-loop
-Inv-loop b₀ all k₀ b k = (k ≤ rowPlaces) × (length b ≡ length b₀)
+Inv-loop b₀ k₀ b k = (k ≤ rowPlaces) × (length b ≡ length b₀)
 
 abbrev μ-loop : tie.MeasureT-loop
-μ-loop b₀ all k₀ b k = rowPlaces - k
+μ-loop b₀ k₀ b k = rowPlaces - k
 
 pub fill-spec : {M : Type 1} → statement M
 fill-spec =

@@ -1,5 +1,5 @@
 -- `commands::is_wrong` meets its contract. Assumes nothing.
-use Rattle.meaning.specs.Reading.{wrong}
+use Rattle.meaning.specs.Refusals.{wrong}
 use Rattle.commands.specs.Asked.{askedBy}
 use Rattle.commands.proofs.Decoded.{wrong-T, wrong-R, wrong-A, wrong-Q, never-wrong}
 use borrow.Author.Needs.{needs}
