@@ -156,24 +156,24 @@ module _ (b : List ℕ) (c : ℕ) (g : GoodBook b) (low : 1 ≤ c) (high : c ≤
   -- equal book.
   pub edit-leaves : (k : M.Command) → fits k ≡ true → refusal (loneBook c b) k ≡ 0
       → Leaves b (editIn b c k) c (edited (loneBook c b) k)
-  unfolding conditions fits
+  unfolding conditions fits every
   edit-leaves (M.addType d t) f e =
-      leaves-type d t f (leb-false M.typeQuota (length (typesOf c b)) (command-not-refused (loneBook c b) (M.addType d t) e 10))
+      leaves-type d t f (leb-false M.typeQuota (length (typesOf c b)) (command-not-refused (loneBook c b) (M.addType d t) refl e 10))
   edit-leaves (M.endType d n o last) f e =
-      leaves-type-end d n o last f (not-false (has (isType n o) (typesOf c b)) (command-not-refused (loneBook c b) (M.endType d n o last) e 7))
+      leaves-type-end d n o last f (not-false (has (isType n o) (typesOf c b)) (command-not-refused (loneBook c b) (M.endType d n o last) refl e 7))
   edit-leaves (M.addRule d r) f e =
-      leaves-rule d r f (leb-false M.ruleQuota (length (rulesOf c b)) (command-not-refused (loneBook c b) (M.addRule d r) e 10))
+      leaves-rule d r f (leb-false M.ruleQuota (length (rulesOf c b)) (command-not-refused (loneBook c b) (M.addRule d r) refl e 10))
   edit-leaves (M.reorder n o s new) f e =
-      leaves-reorder n o s new f (not-false (has (isRule n o s) (rulesOf c b)) (command-not-refused (loneBook c b) (M.reorder n o s new) e 7))
+      leaves-reorder n o s new f (not-false (has (isRule n o s) (rulesOf c b)) (command-not-refused (loneBook c b) (M.reorder n o s new) refl e 7))
   edit-leaves (M.deleteRule n o s) f e =
-      leaves-rule-out n o s (not-false (has (isRule n o s) (rulesOf c b)) (command-not-refused (loneBook c b) (M.deleteRule n o s) e 7))
+      leaves-rule-out n o s (not-false (has (isRule n o s) (rulesOf c b)) (command-not-refused (loneBook c b) (M.deleteRule n o s) refl e 7))
   edit-leaves (M.addRow w) f e =
-      leaves-row w f (leb-false M.rowQuota (length (rowsOf c b)) (command-not-refused (loneBook c b) (M.addRow w) e 10))
+      leaves-row w f (leb-false M.rowQuota (length (rowsOf c b)) (command-not-refused (loneBook c b) (M.addRow w) refl e 10))
   edit-leaves (M.deleteRow w) f e =
-      leaves-row-out w (not-false (has (isRow w) (rowsOf c b)) (command-not-refused (loneBook c b) (M.deleteRow w) e 7))
+      leaves-row-out w (not-false (has (isRow w) (rowsOf c b)) (command-not-refused (loneBook c b) (M.deleteRow w) refl e 7))
   edit-leaves (M.addPeriod d p) f e =
-      leaves-period d p f (leb-false M.periodQuota (length (periodsOf c b)) (command-not-refused (loneBook c b) (M.addPeriod d p) e 10))
+      leaves-period d p f (leb-false M.periodQuota (length (periodsOf c b)) (command-not-refused (loneBook c b) (M.addPeriod d p) refl e 10))
   edit-leaves (M.endPeriod d κ n o first last) f e =
       leaves-period-end d κ n o first last f
-      (not-false (has (isPeriod κ n o first) (periodsOf c b)) (command-not-refused (loneBook c b) (M.endPeriod d κ n o first last) e 7))
+      (not-false (has (isPeriod κ n o first) (periodsOf c b)) (command-not-refused (loneBook c b) (M.endPeriod d κ n o first last) refl e 7))
   edit-leaves (M.ask q) f e = leaves-nothing q

@@ -8,7 +8,7 @@ use lib.Dec.{eqb, ltb}
 use borrow.Author.Tests.{ltb-true}
 use Rattle.tables.specs.Count.{every}
 use Rattle.tables.proofs.Counts.{cases, both}
-use Rattle.meaning.specs.Records.{Book, Command, addType, endType, addRule, reorder, deleteRule, addRow, deleteRow, addPeriod, endPeriod, ask}
+use Rattle.meaning.specs.Records.{Book, Command}
 use Rattle.meaning.specs.Refusals.{firstOf, conditions, refusal}
 
 -- no condition of the list holds
@@ -46,20 +46,8 @@ none-of n (c ∷ cs) h = cases (eqb (c .0) n) (λ e. rw e (h .0)) (λ e. rw e (n
 pub not-refused : (cs : List (ℕ × Bool)) → fromOne cs ≡ true → firstOf cs ≡ 0 → (n : ℕ) → conditionOf n cs ≡ false
 not-refused cs p e n = none-of n cs (none-hold cs p e)
 
-numbered : (b : Book) (k : Command) → fromOne (conditions b k) ≡ true
-unfolding conditions every
-numbered b (addType d t) = refl
-numbered b (endType d type object last) = refl
-numbered b (addRule d r) = refl
-numbered b (reorder type object sequence new) = refl
-numbered b (deleteRule type object sequence) = refl
-numbered b (addRow w) = refl
-numbered b (deleteRow w) = refl
-numbered b (addPeriod d p) = refl
-numbered b (endPeriod d kind number code first last) = refl
-numbered b (ask q) = refl
-
--- The same of a command.
-pub command-not-refused : (b : Book) (k : Command) → refusal b k ≡ 0 → (n : ℕ) → conditionOf n (conditions b k) ≡ false
+-- The same of a command, whose conditions have their numbers by computation.
+pub command-not-refused : (b : Book) (k : Command) → fromOne (conditions b k) ≡ true → refusal b k ≡ 0
+    → (n : ℕ) → conditionOf n (conditions b k) ≡ false
 unfolding refusal
-command-not-refused b k = not-refused (conditions b k) (numbered b k)
+command-not-refused b k = not-refused (conditions b k)

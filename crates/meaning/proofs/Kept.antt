@@ -555,29 +555,29 @@ module _ (b : Book) (g : Good b) where
 -- ---- every command
 
 pub good-edited : (b : Book) → Good b → (k : Command) → fits k ≡ true → refusal b k ≡ 0 → Good (edited b k)
-unfolding conditions fits edited
+unfolding conditions fits edited every
 good-edited b g (addType d t) f e =
-    let no = command-not-refused b (addType d t) e in
+    let no = command-not-refused b (addType d t) refl e in
     good-type b g d t f (no 8) (leb-false typeQuota (length (b .types)) (no 10))
 good-edited b g (endType d n o last) f e =
-    good-type-end b g d n o last f (command-not-refused b (endType d n o last) e 9)
+    good-type-end b g d n o last f (command-not-refused b (endType d n o last) refl e 9)
 good-edited b g (addRule d r) f e =
-    let no = command-not-refused b (addRule d r) e in
+    let no = command-not-refused b (addRule d r) refl e in
     good-rule b g d r f (not-false (has (isType (r .type) (r .object)) (b .types)) (no 7)) (no 8)
     (leb-false ruleQuota (length (b .rules)) (no 10))
 good-edited b g (reorder n o s new) f e =
-    good-reorder b g n o s new f (command-not-refused b (reorder n o s new) e 8)
-good-edited b g (deleteRule n o s) f e = good-rule-out b g n o s (command-not-refused b (deleteRule n o s) e 9)
+    good-reorder b g n o s new f (command-not-refused b (reorder n o s new) refl e 8)
+good-edited b g (deleteRule n o s) f e = good-rule-out b g n o s (command-not-refused b (deleteRule n o s) refl e 9)
 good-edited b g (addRow w) f e =
-    let no = command-not-refused b (addRow w) e in
+    let no = command-not-refused b (addRow w) refl e in
     good-row b g w f (not-false (has (isRule (w .type) (w .object) (w .sequence)) (b .rules)) (no 7)) (no 8) (no 9)
     (leb-false rowQuota (length (b .rows)) (no 10))
 good-edited b g (deleteRow w) f e = good-row-out b g w
 good-edited b g (addPeriod d p) f e =
-    let no = command-not-refused b (addPeriod d p) e in
+    let no = command-not-refused b (addPeriod d p) refl e in
     good-period b g d p f (no 8) (leb-false periodQuota (length (b .periods)) (no 10))
 good-edited b g (endPeriod d κ n o first last) f e =
-    good-period-end b g κ n o first last f (command-not-refused b (endPeriod d κ n o first last) e 9) d
+    good-period-end b g κ n o first last f (command-not-refused b (endPeriod d κ n o first last) refl e 9) d
 good-edited b g (ask q) f e = g
 
 -- ---- every line

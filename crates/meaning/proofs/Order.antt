@@ -3,16 +3,17 @@ use Prim.Native.Nat.{ℕ, zero, suc}
 use mathlib.Core.Path.{_≡_, refl, ap, ap₂, _∙_, fun-ext}
 use mathlib.Core.Bool.{Bool, not, _&&_}
 use mathlib.Core.List.{List, [], _∷_}
+use mathlib.Core.Option.{Option, some, none}
 use lib.Dec.{eqb}
 use Rattle.tables.specs.Count.{has, least}
 use Rattle.tables.proofs.Lists.{same-length, same-has, same-least, same-cons, same-without, same-change}
-use Rattle.meaning.specs.Records.{TypeRecord, Rule, Row, Period, Book, Question, Command, commandOf, addType, endType, addRule, reorder, deleteRule, addRow, deleteRow, addPeriod, endPeriod, ask, positive, negative, party, account, security, rejection, validationHold, partyHold}
+use Rattle.meaning.specs.Records.{TypeRecord, Rule, Row, Period, Book, Question, Command, commandOf, questionIn, addType, endType, addRule, reorder, deleteRule, addRow, deleteRow, addPeriod, endPeriod, ask, positive, negative, party, account, security, rejection, validationHold, partyHold}
 use Rattle.meaning.specs.Reading.{Reading, refused, asks, reading}
 use Rattle.meaning.specs.Keys.{isType, isRule, ofRule, isRow, isPeriod, clash}
 use Rattle.meaning.specs.Refusals.{typeOutside, periodOutside, otherCriteria, firstOf, conditions, refusal}
 use Rattle.meaning.specs.Edits.{typeUntil, ruleMoved, rowMoved, periodUntil, edited}
 use Rattle.meaning.specs.Judging.{covers, meetsAll, hasCode, tests, matches, ruleApplies, applies, named, deciding, decided, verdict, judged}
-use Rattle.meaning.specs.Lone.{Step, reply, unless, taken, afterReading, step, answersFrom}
+use Rattle.meaning.specs.Lone.{Step, replied, reply, unless, taken, afterReading, step, answersFrom}
 use Rattle.meaning.specs.SameBook.{SameBook}
 use Rattle.meaning.specs.declared.Answer.the-variants.{Judged}
 
@@ -171,18 +172,14 @@ module _ (b c : Book) (s : SameBook b c) where
         verdict-same (named b q rejection) (named b q validationHold) (named b q partyHold)
         ∙ rw (named-same rejection, named-same validationHold, named-same partyHold)
 
+  replied-same : (q : Option Question) → replied b q ≡ replied c q
+  unfolding replied
+  replied-same none = refl
+  replied-same (some q) = ap Judged (judged-same q)
+
   reply-same : (k : Command) → reply b k ≡ reply c k
   unfolding reply
-  reply-same (addType day t) = refl
-  reply-same (endType day type object last) = refl
-  reply-same (addRule day r) = refl
-  reply-same (reorder type object sequence new) = refl
-  reply-same (deleteRule type object sequence) = refl
-  reply-same (addRow w) = refl
-  reply-same (deleteRow w) = refl
-  reply-same (addPeriod day p) = refl
-  reply-same (endPeriod day kind number code first last) = refl
-  reply-same (ask q) = ap Judged (judged-same q)
+  reply-same k = replied-same (questionIn k)
 
 -- ---- lines
 

@@ -2,27 +2,13 @@
 use Prim.Native.Nat.{ℕ, zero, suc, _+_, _-_}
 use mathlib.Core.Bool.{Bool, true, false, cond, not, _||_}
 use mathlib.Core.List.{List, [], _∷_}
+use mathlib.Core.Option.{Option, some, none}
 use lib.Dec.{eqb}
 use lib.ListN.{getD}
 use Rattle.tables.specs.Count.{keep}
 use Rattle.meaning.specs.Text.{same}
 use Rattle.meaning.specs.Fields.{within, fields}
-use Rattle.meaning.specs.Records.{
-  Book,
-  empty,
-  Command,
-  commandOf,
-  addType,
-  endType,
-  addRule,
-  reorder,
-  deleteRule,
-  addRow,
-  deleteRow,
-  addPeriod,
-  endPeriod,
-  ask,
-}
+use Rattle.meaning.specs.Records.{Book, empty, Question, Command, commandOf, questionIn}
 use Rattle.meaning.specs.Reading.{Reading, refused, asks, reading}
 use Rattle.meaning.specs.Refusals.{refusal}
 use Rattle.meaning.specs.Edits.{edited}
@@ -30,19 +16,16 @@ use Rattle.meaning.specs.Judging.{judged}
 use Rattle.meaning.specs.declared.Answer.{Answer}
 use Rattle.meaning.specs.declared.Answer.the-variants.{Taken, Refused, Judged}
 
+-- a question is answered with its verdict, any other command with K
+unfoldable pub replied : Book → Option Question → Answer
+unfolding judged
+replied b none = Taken
+replied b (some q) = Judged (judged b q)
+
 -- what a command that is not refused answers
 unfoldable pub reply : Book → Command → Answer
-unfolding judged
-reply b (addType day t) = Taken
-reply b (endType day type object last) = Taken
-reply b (addRule day r) = Taken
-reply b (reorder type object sequence new) = Taken
-reply b (deleteRule type object sequence) = Taken
-reply b (addRow w) = Taken
-reply b (deleteRow w) = Taken
-reply b (addPeriod day p) = Taken
-reply b (endPeriod day kind number code first last) = Taken
-reply b (ask q) = Judged (judged b q)
+unfolding replied
+reply b k = replied b (questionIn k)
 
 -- the answer to a line, and the book after it
 pub record Step : Type 0 where
@@ -64,18 +47,13 @@ unfolding taken commandOf
 afterReading b (refused n) = record { answer = Refused n; book = b }
 afterReading b (asks l v) = taken b (commandOf l v)
 
--- whether a command is a question
+-- whether there is a question
+abbrev pub isSome : Option Question → Bool
+isSome none = false
+isSome (some q) = true
+
 abbrev pub isQuestion : Command → Bool
-isQuestion (addType day t) = false
-isQuestion (endType day type object last) = false
-isQuestion (addRule day r) = false
-isQuestion (reorder type object sequence new) = false
-isQuestion (deleteRule type object sequence) = false
-isQuestion (addRow w) = false
-isQuestion (deleteRow w) = false
-isQuestion (addPeriod day p) = false
-isQuestion (endPeriod day kind number code first last) = false
-isQuestion (ask q) = true
+isQuestion k = isSome (questionIn k)
 
 -- whether what is read leaves the lists as they are: it is refused, or it is a question
 unfoldable pub keepsRead : Book → Reading → Bool

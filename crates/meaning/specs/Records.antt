@@ -2,6 +2,7 @@
 -- A lone book is one depository's, so its records do not bear the csd.
 use Prim.Native.Nat.{ℕ}
 use mathlib.Core.List.{List, [], _∷_}
+use mathlib.Core.Option.{Option, some, none}
 use lib.ListN.{getD}
 use Rattle.meaning.specs.Forms.{Letter, letterT, letterE, letterR, letterO, letterD, letterM, letterN, letterA, letterZ, letterQ}
 
@@ -111,6 +112,19 @@ pub data Command : Type 0 where
   addPeriod : (day : ℕ) → Period → Command
   endPeriod : (day kind number code first last : ℕ) → Command
   ask : Question → Command
+
+-- the question that a command asks, if it is one
+abbrev pub questionIn : Command → Option Question
+questionIn (addType day t) = none
+questionIn (endType day type object last) = none
+questionIn (addRule day r) = none
+questionIn (reorder type object sequence new) = none
+questionIn (deleteRule type object sequence) = none
+questionIn (addRow w) = none
+questionIn (deleteRow w) = none
+questionIn (addPeriod day p) = none
+questionIn (endPeriod day kind number code first last) = none
+questionIn (ask q) = some q
 
 -- the number at a place of a list, 0 past its end
 infixl 90 _!_
