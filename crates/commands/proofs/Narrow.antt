@@ -38,13 +38,15 @@ low-same n l = omega arith
 
 pub asked-coded : (c d : ℕ) (k : M.Command) → Narrow d k → asked (coded c d k) ≡ k
 unfolding coded askedBy typeOf ruleOf rowOf periodOf
-asked-coded c d (M.addType e t) (f, n, o, p) = rw (f, low-same (t .type) n, low-same (t .object) o, low-same (t .processing) p)
+asked-coded c d (M.addType e t) (f, n, o, p) =
+    rw (f, low-same (t .type) n, low-same (t .object) o, low-same (t .processing) p)
 asked-coded c d (M.endType e type object last) (f, n, o) = rw (f, low-same type n, low-same object o)
 asked-coded c d (M.addRule e r) (f, (n, o, s), g) =
     rw (f, low-same (r .type) n, low-same (r .object) o, low-same (r .sequence) s, low-same (r .sign) g)
 asked-coded c d (M.reorder type object sequence new) ((n, o, s), x) =
     rw (low-same type n, low-same object o, low-same sequence s, low-same new x)
-asked-coded c d (M.deleteRule type object sequence) (n, o, s) = rw (low-same type n, low-same object o, low-same sequence s)
+asked-coded c d (M.deleteRule type object sequence) (n, o, s) =
+    rw (low-same type n, low-same object o, low-same sequence s)
 asked-coded c d (M.addRow w) (n, o, s) = rw (low-same (w .type) n, low-same (w .object) o, low-same (w .sequence) s)
 asked-coded c d (M.deleteRow w) (n, o, s) = rw (low-same (w .type) n, low-same (w .object) o, low-same (w .sequence) s)
 asked-coded c d (M.addPeriod e p) (f, k) = rw (f, low-same (p .kind) k)
@@ -73,25 +75,61 @@ narrow-read l v r =
     byte s i m e l f k = below m (v ! i) k (sym f ∙ holds-at (s .forms) v e i l)
 
     read-T : Read v shapeT
-    read-T e = (refl, byte shapeT 2 99 e (omega arith) refl (omega arith), byte shapeT 3 2 e (omega arith) refl (omega arith), byte shapeT 4 3 e (omega arith) refl (omega arith))
+    read-T e = (
+      refl,
+      byte shapeT 2 99 e (omega arith) refl (omega arith),
+      byte shapeT 3 2 e (omega arith) refl (omega arith),
+      byte shapeT 4 3 e (omega arith) refl (omega arith),
+    )
 
     read-E : Read v shapeE
-    read-E e = (refl, byte shapeE 2 99 e (omega arith) refl (omega arith), byte shapeE 3 2 e (omega arith) refl (omega arith))
+    read-E e = (
+      refl,
+      byte shapeE 2 99 e (omega arith) refl (omega arith),
+      byte shapeE 3 2 e (omega arith) refl (omega arith),
+    )
 
     read-R : Read v shapeR
-    read-R e = (refl, (byte shapeR 2 99 e (omega arith) refl (omega arith), byte shapeR 3 2 e (omega arith) refl (omega arith), byte shapeR 4 99 e (omega arith) refl (omega arith)), byte shapeR 5 2 e (omega arith) refl (omega arith))
+    read-R e = (
+      refl,
+      (
+        byte shapeR 2 99 e (omega arith) refl (omega arith),
+        byte shapeR 3 2 e (omega arith) refl (omega arith),
+        byte shapeR 4 99 e (omega arith) refl (omega arith),
+      ),
+      byte shapeR 5 2 e (omega arith) refl (omega arith),
+    )
 
     read-O : Read v shapeO
-    read-O e = ((byte shapeO 2 99 e (omega arith) refl (omega arith), byte shapeO 3 2 e (omega arith) refl (omega arith), byte shapeO 4 99 e (omega arith) refl (omega arith)), byte shapeO 5 99 e (omega arith) refl (omega arith))
+    read-O e = (
+      (
+        byte shapeO 2 99 e (omega arith) refl (omega arith),
+        byte shapeO 3 2 e (omega arith) refl (omega arith),
+        byte shapeO 4 99 e (omega arith) refl (omega arith),
+      ),
+      byte shapeO 5 99 e (omega arith) refl (omega arith),
+    )
 
     read-D : Read v shapeD
-    read-D e = (byte shapeD 2 99 e (omega arith) refl (omega arith), byte shapeD 3 2 e (omega arith) refl (omega arith), byte shapeD 4 99 e (omega arith) refl (omega arith))
+    read-D e = (
+      byte shapeD 2 99 e (omega arith) refl (omega arith),
+      byte shapeD 3 2 e (omega arith) refl (omega arith),
+      byte shapeD 4 99 e (omega arith) refl (omega arith),
+    )
 
     read-M : Read v shapeM
-    read-M e = (byte shapeM 2 99 e (omega arith) refl (omega arith), byte shapeM 3 2 e (omega arith) refl (omega arith), byte shapeM 4 99 e (omega arith) refl (omega arith))
+    read-M e = (
+      byte shapeM 2 99 e (omega arith) refl (omega arith),
+      byte shapeM 3 2 e (omega arith) refl (omega arith),
+      byte shapeM 4 99 e (omega arith) refl (omega arith),
+    )
 
     read-N : Read v shapeN
-    read-N e = (byte shapeN 2 99 e (omega arith) refl (omega arith), byte shapeN 3 2 e (omega arith) refl (omega arith), byte shapeN 4 99 e (omega arith) refl (omega arith))
+    read-N e = (
+      byte shapeN 2 99 e (omega arith) refl (omega arith),
+      byte shapeN 3 2 e (omega arith) refl (omega arith),
+      byte shapeN 4 99 e (omega arith) refl (omega arith),
+    )
 
     read-A : Read v shapeA
     read-A e = (refl, byte shapeA 2 3 e (omega arith) refl (omega arith))

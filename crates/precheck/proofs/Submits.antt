@@ -206,8 +206,8 @@ module _ (b line : List ℕ) (l : Letter) (v : List ℕ) (s : sound b ≡ true) 
       let fit = reading-fits line l v e in
       let left = edit-left b c s low high k fit r in
       rw i
-      (submitted-by x (editIn b c k) (rw r f) (λ z. question-left b c k (left-question r z)) (edit-sound b c s low high k fit r)
-      (rw r (left .own)) (left .others))
+      (submitted-by x (editIn b c k) (rw r f) (λ z. question-left b c k (left-question r z))
+      (edit-sound b c s low high k fit r) (rw r (left .own)) (left .others))
 
   -- THE PROMISE for a line that is read, from what `take` does.
   submitted-read : (x : Answer) (b′ : List ℕ) → Took b (coded c (v ! 1) k) x b′ → Submitted b line x b′
@@ -275,7 +275,9 @@ module _ (b line : List ℕ) (t : Bool) (x : Answer) where
         record {
           answered = rw (n, ← g, z) i;
           bytes = rw (n, ← g, z);
-          promise = λ e. submitted-unread b line (l .refusal) x (sym e ∙ n) (unread line (l .refusal) (Read.was-refused line g h .whole)) i;
+          promise = λ e.
+              submitted-unread b line (l .refusal) x (sym e ∙ n)
+              (unread line (l .refusal) (Read.was-refused line g h .whole)) i;
         }
 
     module _ (h : l .refusal ≡ 0) (c : Command) (w : Bool) (i : c ≡ commandIn l) (j : w ≡ wrong (asked c)) where
@@ -290,7 +292,8 @@ module _ (b line : List ℕ) (t : Bool) (x : Answer) where
           record {
             answered = rw (n, ← g, z, said ∙ y) u;
             bytes = rw (n, ← g, z, said ∙ y);
-            promise = λ e. submitted-unread b line 5 x (sym e ∙ n) (wrong-reading line l (Read.asked line g h) (said ∙ y)) u;
+            promise = λ e.
+                submitted-unread b line 5 x (sym e ∙ n) (wrong-reading line l (Read.asked line g h) (said ∙ y)) u;
           }
 
       pub answers-read : (b′ : List ℕ) → w ≡ false → Took b c x b′ → Answers t b line x b′
@@ -326,11 +329,13 @@ answers-any b line s =
     cases-eq (l .refusal) 0
     (λ e.
     cases (wrong (asked (commandIn l)))
-    (λ w. rw (eq-eqb (l .refusal) 0 e, w) (answers-wrong b line true (Refused 5) l refl refl e (commandIn l) true refl (sym w) refl refl))
     (λ w.
     rw (eq-eqb (l .refusal) 0 e, w)
-    (answers-read b line true (answerOf b (commandIn l)) l refl refl e (commandIn l) false refl (sym w) (bytesAfter b (commandIn l)) refl
-    (record { answered = refl; bytes = refl }))))
+    (answers-wrong b line true (Refused 5) l refl refl e (commandIn l) true refl (sym w) refl refl))
+    (λ w.
+    rw (eq-eqb (l .refusal) 0 e, w)
+    (answers-read b line true (answerOf b (commandIn l)) l refl refl e (commandIn l) false refl (sym w)
+    (bytesAfter b (commandIn l)) refl (record { answered = refl; bytes = refl }))))
     (λ e. rw (ne-eqb (l .refusal) 0 e) (answers-unread b line true (Refused (l .refusal)) l refl refl e refl))
 
 pub keeps-promise : (b line : List ℕ) → Submitted b line (answerBy (sound b) b line) (bytesBy (sound b) b line)
@@ -353,7 +358,7 @@ untaken-keeps m (asks l v) h =
     (λ e. absurd (h (rw e (reply-edit m (commandOf l v) q))))
     (λ e. rw (ne-eqb (refusal m (commandOf l v)) 0 e)))
 
-untaken-left : (b line : List ℕ) → (answerIn b line ≡ Taken → ⊥) → leftAsFound b line ≡ true
+pub untaken-left : (b line : List ℕ) → (answerIn b line ≡ Taken → ⊥) → leftAsFound b line ≡ true
 unfolding answerIn leftAsFound keeps step
 untaken-left b line h =
     cases (sound b)

@@ -59,7 +59,8 @@ commandIn l = commandFrom (letterFor (l .letter)) (l .values)
 -- refusals 2 to 5, the last of which may lie in the whole command; or what is answered to it
 unfoldable pub answerRead : List ℕ → Line → Answer
 answerRead b l =
-    cond (eqb (l .refusal) 0) (cond (wrong (asked (commandIn l))) (Refused 5) (answerOf b (commandIn l))) (Refused (l .refusal))
+    cond (eqb (l .refusal) 0) (cond (wrong (asked (commandIn l))) (Refused 5) (answerOf b (commandIn l)))
+    (Refused (l .refusal))
 
 unfoldable pub bytesRead : List ℕ → Line → List ℕ
 bytesRead b l = cond (eqb (l .refusal) 0) (cond (wrong (asked (commandIn l))) b (bytesAfter b (commandIn l))) b
