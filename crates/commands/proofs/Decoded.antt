@@ -5,11 +5,11 @@ use mathlib.Core.Path.{_≡_, refl, ap, _∙_}
 use mathlib.Core.Bool.{Bool, false, not, cond, _&&_, _||_, and-true}
 use mathlib.Core.List.{List, [], _∷_, map}
 use lib.Dec.{eqb, ltb}
-use lib.ListN.{getD, replicate}
+use lib.ListN.{replicate}
 use borrow.Author.Tests.{ne-eqb}
 use Rattle.tables.proofs.Counts.{cases}
 use Rattle.meaning.specs.Text.{bytes, same}
-use Rattle.meaning.specs.Forms.{Letter, letterT, letterE, letterR, letterO, letterD, letterM, letterN, letterA, letterZ, letterQ, letterText, Shape, shapeT, shapeE, shapeR, shapeO, shapeD, shapeM, shapeN, shapeA, shapeZ, shapeQ, hasLetter, firstShape}
+use Rattle.meaning.specs.Forms.{Letter, letterT, letterE, letterR, letterO, letterD, letterM, letterN, letterA, letterZ, letterQ, letterText, letterByte, Shape, shapeT, shapeE, shapeR, shapeO, shapeD, shapeM, shapeN, shapeA, shapeZ, shapeQ, hasLetter, firstShape}
 use Rattle.meaning.specs.Records.{_!_, commandOf}
 use Rattle.meaning.specs.Refusals.{wrong}
 use Rattle.records.specs.Said.{typeOf, ruleOf, periodOf}
@@ -109,10 +109,6 @@ module _ (v : List ℕ) (c n o s : ℕ) (r : Row) where
 abbrev pub NoneOf : List ℕ → ℕ → Type 0
 NoneOf [] n = Unit {0}
 NoneOf (k ∷ ks) n = NoneOf ks n × (n ≡ k → ⊥)
-
--- the byte of a letter
-abbrev pub letterByte : Letter → ℕ
-letterByte l = getD (letterText l) 0 0
 
 pub one-byte : (l : Letter) → letterText l ≡ letterByte l ∷ []
 one-byte letterT = refl

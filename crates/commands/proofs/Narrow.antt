@@ -1,20 +1,28 @@
 -- A command whose one-byte fields are below 256 is coded as itself, and so is what is read of a line.
 use Prim.Native.Nat.{ℕ, _%_, _<_}
-use mathlib.Core.Path.{_≡_, refl, sym, _∙_}
+use mathlib.Core.Path.{_≡_, refl, ap, sym, _∙_}
 use mathlib.Core.Bool.{true}
-use mathlib.Core.List.{List}
+use mathlib.Core.List.{List, [], _∷_}
+use mathlib.Core.Option.{Option, some, none}
 use native.Mathlib.Omega.{arith}
 use lib.ListN.{length, getD}
 use borrow.Author.Tests.{leb-true}
+use denote.Enum.Declared.{tagOf}
+use types.Run.{OneOf, miss}
 use Rattle.tables.proofs.Counts.{ands}
 use Rattle.meaning.specs.Fields.{within}
 use Rattle.meaning.specs.Forms.{holds, holdsAll, day, Letter, Shape, shapes, shapeT, shapeE, shapeR, shapeO, shapeD, shapeM, shapeN, shapeA, shapeZ, shapeQ}
 use Rattle.meaning.specs.Records as M
-use Rattle.meaning.specs.Records.{_!_, commandOf}
+use Rattle.meaning.specs.Records.{_!_, commandOf, questionIn}
 use Rattle.meaning.proofs.Shapes.{Ranged, by-rows}
 use Rattle.meaning.proofs.Ranges.{holds-at}
 use Rattle.records.specs.Said.{typeOf, ruleOf, rowOf, periodOf}
-use Rattle.commands.specs.Asked.{askedBy, asked, coded}
+use Rattle.places.specs.declared.Row.{Row}
+use Rattle.commands.proofs.What.{the-type}
+use Rattle.commands.specs.Asked.{questionOf, askedBy, asked, questionAsked, questionOn, whatOf, rowBeside, coded}
+use Rattle.commands.specs.declared.Question.{Question}
+use Rattle.commands.specs.declared.What.{What}
+use Rattle.commands.specs.declared.What.the-variants as What
 
 -- The numbers of a key: type, object and sequence.
 abbrev Key : ℕ → ℕ → ℕ → Type 0
@@ -52,6 +60,62 @@ asked-coded c d (M.deleteRow w) (n, o, s) = rw (low-same (w .type) n, low-same (
 asked-coded c d (M.addPeriod e p) (f, k) = rw (f, low-same (p .kind) k)
 asked-coded c d (M.endPeriod e kind number code first last) (f, k) = rw (f, low-same kind k)
 asked-coded c d (M.ask q) o = rw (low-same (q .object) o)
+
+-- a question of the meaning's as depository c's
+abbrev pub asOn : ℕ → Option M.Question → Option Question
+asOn c none = none
+asOn c (some q) = some (questionOn c q)
+
+pub question-coded : (c : ℕ) (k : M.Command) → questionAsked (whatOf c k) ≡ asOn c (questionIn k)
+unfolding whatOf
+question-coded c (M.addType e t) = refl
+question-coded c (M.endType e type object last) = refl
+question-coded c (M.addRule e r) = refl
+question-coded c (M.reorder type object sequence new) = refl
+question-coded c (M.deleteRule type object sequence) = refl
+question-coded c (M.addRow w) = refl
+question-coded c (M.deleteRow w) = refl
+question-coded c (M.addPeriod e p) = refl
+question-coded c (M.endPeriod e kind number code first last) = refl
+question-coded c (M.ask q) = refl
+
+-- a question as the meaning's
+abbrev pub asMeant : Option Question → Option M.Question
+asMeant none = none
+asMeant (some q) = some (questionOf q)
+
+asked-question : (d : ℕ) (w : Row) (x : What) → questionIn (askedBy d w x) ≡ asMeant (questionAsked x)
+unfolding askedBy
+asked-question d w (What.AddType t) = refl
+asked-question d w (What.EndType number object last) = refl
+asked-question d w (What.AddRule r) = refl
+asked-question d w (What.Reorder new) = refl
+asked-question d w What.DeleteRule = refl
+asked-question d w What.AddRow = refl
+asked-question d w What.DeleteRow = refl
+asked-question d w (What.AddPeriod p) = refl
+asked-question d w (What.EndPeriod p) = refl
+asked-question d w (What.Ask q) = refl
+
+-- What the code's test for a question leaves, by the places of the others in the enum, asks no question.
+pub not-asked : (x : What) → OneOf (0 ∷ 1 ∷ 2 ∷ 3 ∷ 4 ∷ 5 ∷ 6 ∷ 7 ∷ 8 ∷ []) (tagOf the-type x) → questionAsked x ≡ none
+not-asked (What.AddType t) k = refl
+not-asked (What.EndType number object last) k = refl
+not-asked (What.AddRule r) k = refl
+not-asked (What.Reorder new) k = refl
+not-asked What.DeleteRule k = refl
+not-asked What.AddRow k = refl
+not-asked What.DeleteRow k = refl
+not-asked (What.AddPeriod p) k = refl
+not-asked (What.EndPeriod p) k = refl
+not-asked (What.Ask q) k = absurd (miss (0 ∷ 1 ∷ 2 ∷ 3 ∷ 4 ∷ 5 ∷ 6 ∷ 7 ∷ 8 ∷ []) 9 tt k)
+
+-- The question of a command whose one-byte fields are below 256 is coded as itself.
+pub question-same : (c d : ℕ) (k : M.Command) → Narrow d k → asMeant (asOn c (questionIn k)) ≡ questionIn k
+unfolding coded
+question-same c d k n =
+    ap asMeant (sym (question-coded c k)) ∙ sym (asked-question d (rowBeside c k) (whatOf c k))
+    ∙ ap questionIn (asked-coded c d k n)
 
 -- ---- the numbers of a letter's fields, each in its form's range
 

@@ -49,6 +49,19 @@ askedBy day w (What.Ask q) = M.ask (questionOf q)
 abbrev pub asked : Command → M.Command
 asked c = askedBy (c .day) (c .row) (c .what)
 
+-- the question that is asked, if it is one
+abbrev pub questionAsked : What → Option Question
+questionAsked (What.AddType t) = none
+questionAsked (What.EndType number object last) = none
+questionAsked (What.AddRule r) = none
+questionAsked (What.Reorder new) = none
+questionAsked What.DeleteRule = none
+questionAsked What.AddRow = none
+questionAsked What.DeleteRow = none
+questionAsked (What.AddPeriod p) = none
+questionAsked (What.EndPeriod p) = none
+questionAsked (What.Ask q) = some q
+
 -- ---- the command of depository c for what is asked; what stands in one byte is the number's lowest byte
 
 abbrev pub rowOn : ℕ → ℕ → ℕ → ℕ → List ℕ → Row
@@ -58,6 +71,21 @@ rowOn c type object sequence values =
 abbrev pub periodOn : ℕ → ℕ → ℕ → ℕ → ℕ → ℕ → Period
 periodOn c kind number code first last =
     record { csd = c; kind = kind % 256; number = number; code = code; first = first; last = last }
+
+abbrev pub questionOn : ℕ → M.Question → Question
+questionOn c q = record {
+  csd = c;
+  day = q .day;
+  object = q .object % 256;
+  role = q .partyType;
+  movement = q .movement;
+  payment = q .payment;
+  transaction = q .transaction;
+  currency = q .currency;
+  party = q .party;
+  account = q .account;
+  security = q .security;
+}
 
 unfoldable pub whatOf : ℕ → M.Command → What
 whatOf c (M.addType day t) =
@@ -87,20 +115,7 @@ whatOf c (M.addRow w) = What.AddRow
 whatOf c (M.deleteRow w) = What.DeleteRow
 whatOf c (M.addPeriod day p) = What.AddPeriod (periodOn c (p .kind) (p .number) (p .code) (p .first) (p .last))
 whatOf c (M.endPeriod day kind number code first last) = What.EndPeriod (periodOn c kind number code first last)
-whatOf c (M.ask q) =
-    What.Ask (record {
-      csd = c;
-      day = q .day;
-      object = q .object % 256;
-      role = q .partyType;
-      movement = q .movement;
-      payment = q .payment;
-      transaction = q .transaction;
-      currency = q .currency;
-      party = q .party;
-      account = q .account;
-      security = q .security;
-    })
+whatOf c (M.ask q) = What.Ask (questionOn c q)
 
 -- for M and N the row, for O and D a row without values, whose key names the rule
 unfoldable pub rowBeside : ℕ → M.Command → Row

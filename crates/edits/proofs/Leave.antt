@@ -1,18 +1,19 @@
 -- What the nine edits leave: one theorem, over the command.
 use Prim.Native.Nat.{ℕ, _≤_, _<_}
 use mathlib.Core.Path.{_≡_, refl}
-use mathlib.Core.Bool.{true}
+use mathlib.Core.Bool.{true, false≢true}
 use mathlib.Core.List.{List}
 use native.Mathlib.Omega.{arith}
 use lib.ListN.{length}
 use borrow.Author.Tests.{lt-ltb, leb-false, not-false}
-use Rattle.tables.specs.Count.{has}
+use Rattle.tables.specs.Count.{has, every}
 use Rattle.tables.proofs.Lone.{every-at}
 use Rattle.tables.proofs.Lists.{has-true}
 use Rattle.meaning.specs.Records as M
 use Rattle.meaning.specs.Keys.{isType, isRule, isRow, isPeriod}
 use Rattle.meaning.specs.Refusals.{conditions, refusal}
 use Rattle.meaning.specs.Edits.{edited, fits}
+use Rattle.meaning.specs.Lone.{isQuestion}
 use Rattle.meaning.specs.Forms.{holds, day, sequenceForm}
 use Rattle.meaning.specs.Sound.{typeFits, ruleFits, rowFits, periodFits}
 use Rattle.meaning.proofs.First.{command-not-refused}
@@ -177,3 +178,17 @@ module _ (b : List ℕ) (c : ℕ) (g : GoodBook b) (low : 1 ≤ c) (high : c ≤
       leaves-period-end d κ n o first last f
       (not-false (has (isPeriod κ n o first) (periodsOf c b)) (command-not-refused (loneBook c b) (M.endPeriod d κ n o first last) refl e 7))
   edit-leaves (M.ask q) f e = leaves-nothing q
+
+-- A question's edit leaves every byte.
+pub question-left : (b : List ℕ) (c : ℕ) (k : M.Command) → isQuestion k ≡ true → editIn b c k ≡ b
+unfolding editIn
+question-left b c (M.addType e t) q = absurd (false≢true q)
+question-left b c (M.endType e type object last) q = absurd (false≢true q)
+question-left b c (M.addRule e r) q = absurd (false≢true q)
+question-left b c (M.reorder type object sequence new) q = absurd (false≢true q)
+question-left b c (M.deleteRule type object sequence) q = absurd (false≢true q)
+question-left b c (M.addRow w) q = absurd (false≢true q)
+question-left b c (M.deleteRow w) q = absurd (false≢true q)
+question-left b c (M.addPeriod e p) q = absurd (false≢true q)
+question-left b c (M.endPeriod e kind number code first last) q = absurd (false≢true q)
+question-left b c (M.ask r) q = refl

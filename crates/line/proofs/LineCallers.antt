@@ -17,7 +17,7 @@ use Rattle.meaning.specs.Reading.{Reading, refused, asks, readAll, byNumbers, b
 use Rattle.meaning.proofs.Shapes.{Ranged}
 use Rattle.meaning.proofs.Ranges.{numbers-ranged}
 use Rattle.meaning.proofs.Names.{numbers-csd}
-use Rattle.line.specs.Table.{letterByte}
+use Rattle.meaning.specs.Forms.{letterByte}
 use Rattle.line.specs.Line.{lineOf}
 use Rattle.line.specs.declared.reading.Line.{Line}
 use Rattle.line.proofs.Padding.{command-padded}

@@ -17,7 +17,8 @@ use Rattle.tables.proofs.Lists.{has-cons}
 use Rattle.tables.proofs.Entries.{map-entry, every-entry}
 use Rattle.meaning.specs.Text.{same}
 use Rattle.meaning.specs.Forms.{letterText, Shape, shapeQ, shapes, hasLetter, firstShape}
-use Rattle.line.specs.Table.{rows, shapeAt, atRow, formsAt, letterByte, asShape, firstRow, Counted}
+use Rattle.meaning.specs.Forms.{letterByte}
+use Rattle.line.specs.Table.{rows, shapeAt, atRow, formsAt, asShape, firstRow, Counted}
 use Rattle.line.proofs.Loops.{same-length}
 
 -- ---- a letter is one byte

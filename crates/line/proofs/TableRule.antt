@@ -13,7 +13,8 @@ use lib.Seq.{getD-take}
 use lib.ListN.{length, getD, take, replicate, List·getD-eq-default, List·getD-map}
 use Rattle.meaning.specs.Text.{bytes}
 use Rattle.meaning.specs.Forms.{Form, upTo, csdForm, currencyForm, shapeQ, shapes}
-use Rattle.line.specs.Table.{plainForms, plainForm, Most, formAt, rows, shapeAt, letterByte, formsAt, Counted}
+use Rattle.meaning.specs.Forms.{letterByte}
+use Rattle.line.specs.Table.{plainForms, plainForm, Most, formAt, rows, shapeAt, formsAt, Counted}
 
 -- what the last arm of a match on n knows, whose other arms are m to m + k - 1
 abbrev NoneFrom : ℕ → ℕ → ℕ → Type 0

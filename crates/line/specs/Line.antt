@@ -7,7 +7,7 @@ use lib.ListN.{set}
 use Rattle.tables.specs.Padded.{padded}
 use Rattle.meaning.specs.Forms.{Form, Letter, read}
 use Rattle.meaning.specs.Reading.{Reading, refused, asks}
-use Rattle.line.specs.Table.{letterByte}
+use Rattle.meaning.specs.Forms.{letterByte}
 use Rattle.line.specs.declared.reading.Values.{Values}
 use Rattle.line.specs.declared.reading.Line.{Line}
 

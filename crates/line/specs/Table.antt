@@ -84,10 +84,6 @@ atRow n = getD (map some shapes) n none
 unfoldable pub formsAt : ℕ → List Form
 formsAt n = shapeAt n .forms
 
--- a letter as it stands in a line: one byte
-abbrev pub letterByte : Letter → ℕ
-letterByte l = getD (letterText l) 0 0
-
 -- whether a row has that letter and that many fields
 abbrev pub asShape : ℕ → ℕ → Shape → Bool
 asShape c n s = hasLetter (c ∷ []) s && hasLength n s

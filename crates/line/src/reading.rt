@@ -38,7 +38,8 @@ ghost use Rattle.meaning.specs.Forms.{csdForm, shapes, hasLetter};
 ghost use Rattle.meaning.specs.Reading.{readAll, refused, byShape, byFields, numbersRead};
 ghost use Rattle.line.specs.Values.{valueOf};
 ghost use Rattle.fields.specs.Cut.{more, Passes};
-ghost use Rattle.line.specs.Table.{rows, formAt, formsAt, Counted, letterByte, shapeAt, atRow, firstRow, asShape};
+ghost use Rattle.meaning.specs.Forms.{letterByte};
+ghost use Rattle.line.specs.Table.{rows, formAt, formsAt, Counted, shapeAt, atRow, firstRow, asShape};
 ghost use Rattle.line.specs.Line.{firstRead, putAt, inRow, valuesOf, numbersLine, lineOf};
 
 // ---- the table of shapes: a letter and the forms of the fields after it

@@ -173,6 +173,10 @@ letterText letterA = bytes "A"
 letterText letterZ = bytes "Z"
 letterText letterQ = bytes "Q"
 
+-- which is one byte
+abbrev pub letterByte : Letter → ℕ
+letterByte l = getD (letterText l) 0 0
+
 -- a letter and the forms of the fields after it
 pub record Shape : Type 0 where
   pub letter : Letter

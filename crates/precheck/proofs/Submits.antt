@@ -3,32 +3,34 @@ use Prim.Native.Nat.{ℕ, zero, suc, _%_, _≤_}
 use mathlib.Core.Path.{_≡_, refl, ap, sym, _∙_}
 use mathlib.Core.Bool.{Bool, true, false, not, or-true, false≢true}
 use mathlib.Core.List.{List}
+use mathlib.Core.Option.{Option, some, none}
 use native.Mathlib.Omega.{arith}
 use lib.Dec.{eqb}
 use borrow.Author.Tests.{eq-eqb, ne-eqb, not-true, not-false}
 use Rattle.tables.proofs.Counts.{cases, cases-eq}
 use Rattle.meaning.specs.Forms.{Letter}
 use Rattle.meaning.specs.Records as M
-use Rattle.meaning.specs.Records.{_!_, commandOf}
+use Rattle.meaning.specs.Records.{_!_, commandOf, questionIn}
 use Rattle.meaning.specs.Reading.{Reading, refused, asks, numbersRead, unlessWrong, reading}
 use Rattle.meaning.specs.Refusals.{wrong, refusal}
-use Rattle.meaning.specs.Lone.{reply, unless, taken, afterReading, step, isQuestion, keepsRead, keeps, names, depository}
+use Rattle.meaning.specs.Lone.{replied, reply, unless, taken, afterReading, step, isSome, isQuestion, keepsRead, keeps, names, depository}
 use Rattle.meaning.specs.SameBook.{SameBook}
 use Rattle.meaning.specs.Sound.{soundLone}
 use Rattle.meaning.specs.declared.Answer.{Answer}
 use Rattle.meaning.specs.declared.Answer.the-variants.{Taken, Refused, Judged}
 use Rattle.meaning.proofs.Ranges.{reading-ranged, reading-fits}
 use Rattle.meaning.proofs.Names.{reading-csd, reading-names, reading-depository, names-depository}
-use Rattle.commands.specs.Asked.{asked, whatOf, coded, letterFor}
+use Rattle.commands.specs.Asked.{asked, questionAsked, questionOn, whatOf, coded, letterFor}
 use Rattle.commands.specs.declared.Question.{Question}
 use Rattle.commands.specs.declared.What.{What}
 use Rattle.commands.specs.declared.What.the-variants as What
 use Rattle.commands.specs.declared.Command.{Command}
 use Rattle.commands.proofs.Decoded.{letter-for}
-use Rattle.commands.proofs.Narrow.{Narrow, low-same, asked-coded, narrow-read}
+use Rattle.commands.proofs.Narrow.{Narrow, asOn, asMeant, asked-coded, question-coded, question-same, narrow-read}
 use Rattle.book.specs.Lone.{loneBook}
 use Rattle.book.specs.Sound.{sound}
 use Rattle.edits.specs.Edit.{editIn}
+use Rattle.edits.proofs.Leave.{question-left}
 use Rattle.edits.proofs.Stay.{sound-lone, edit-left, edit-sound}
 use Rattle.judge.specs.Stages.{judgedBy}
 use Rattle.judge.proofs.VerdictRight.{judged-right}
@@ -36,17 +38,18 @@ use Rattle.line.specs.declared.reading.Line.{Line}
 use Rattle.line.specs.Line.{lineOf}
 use Rattle.line.proofs.LineCallers as Read
 use Rattle.precheck.specs.Promise.{answerIn, loneAfter, leftAsFound, Submitted}
-use Rattle.precheck.specs.Taking.{refusalOf, replyTo, answerOf, bytesAfter, Took, commandIn, answerRead, bytesRead, answerBy, bytesBy, Answers}
+use Rattle.precheck.specs.Taking.{refusalOf, repliedTo, replyTo, answerOf, bytesAfter, Took, commandIn, answerRead, bytesRead, answerBy, bytesBy, Answers}
 
 -- ---- the returns of reply and take
-
-pub replied : (b : List ℕ) (c : Command) (w : What) → c .what ≡ w → Taken ≡ replyTo b w → Taken ≡ replyTo b (c .what)
-replied b c w e f = rw e f
 
 pub replied-question : (b : List ℕ) (c : Command) (q : Question) (v : _) → c .what ≡ What.Ask q → v ≡ judgedBy b q
     → Judged v ≡ replyTo b (c .what)
 unfolding replyTo
 replied-question b c q v e f = rw (e, f)
+
+pub replied-taken : (b : List ℕ) (w : What) → questionAsked w ≡ none → Taken ≡ replyTo b w
+unfolding replyTo
+replied-taken b w e = rw e
 
 module _ (b : List ℕ) (c : Command) where
   pub took-refusal : (n : ℕ) (x : Answer) → (n ≡ 0 → ⊥) → x ≡ Refused n → n ≡ refusal (loneBook (c .csd) b) (asked c)
@@ -66,47 +69,28 @@ module _ (b : List ℕ) (c : Command) where
 
 -- ---- what is replied is the meaning's
 
+question-right : (b : List ℕ) (c : ℕ) → soundLone (loneBook c b) ≡ true → (q : Option M.Question)
+    → repliedTo b (asOn c q) ≡ replied (loneBook c b) (asMeant (asOn c q))
+unfolding repliedTo replied
+question-right b c s none = refl
+question-right b c s (some q) = ap Judged (judged-right b (questionOn c q) s)
+
 reply-coded : (b : List ℕ) (c d : ℕ) (k : M.Command) → Narrow d k → soundLone (loneBook c b) ≡ true
     → replyTo b (whatOf c k) ≡ reply (loneBook c b) k
-unfolding replyTo whatOf reply
-reply-coded b c d (M.addType e t) n s = refl
-reply-coded b c d (M.endType e type object last) n s = refl
-reply-coded b c d (M.addRule e r) n s = refl
-reply-coded b c d (M.reorder type object sequence new) n s = refl
-reply-coded b c d (M.deleteRule type object sequence) n s = refl
-reply-coded b c d (M.addRow w) n s = refl
-reply-coded b c d (M.deleteRow w) n s = refl
-reply-coded b c d (M.addPeriod e p) n s = refl
-reply-coded b c d (M.endPeriod e kind number code first last) n s = refl
-reply-coded b c d (M.ask q) n s = rw (low-same (q .object) n) (ap Judged (judged-right b _ s))
-
--- a question's edit leaves every byte
-question-left : (b : List ℕ) (c : ℕ) (k : M.Command) → isQuestion k ≡ true → editIn b c k ≡ b
-unfolding editIn
-question-left b c (M.addType e t) q = absurd (false≢true q)
-question-left b c (M.endType e type object last) q = absurd (false≢true q)
-question-left b c (M.addRule e r) q = absurd (false≢true q)
-question-left b c (M.reorder type object sequence new) q = absurd (false≢true q)
-question-left b c (M.deleteRule type object sequence) q = absurd (false≢true q)
-question-left b c (M.addRow w) q = absurd (false≢true q)
-question-left b c (M.deleteRow w) q = absurd (false≢true q)
-question-left b c (M.addPeriod e p) q = absurd (false≢true q)
-question-left b c (M.endPeriod e kind number code first last) q = absurd (false≢true q)
-question-left b c (M.ask r) q = refl
+unfolding replyTo reply
+reply-coded b c d k n s =
+    ap (repliedTo b) (question-coded c k) ∙ question-right b c s (questionIn k)
+    ∙ ap (replied (loneBook c b)) (question-same c d k n)
 
 -- any other command is replied K
+none-replied : (m : M.Book) (q : Option M.Question) → isSome q ≡ false → replied m q ≡ Taken
+unfolding replied
+none-replied m none e = refl
+none-replied m (some q) e = absurd (false≢true (sym e))
+
 reply-edit : (m : M.Book) (k : M.Command) → isQuestion k ≡ false → reply m k ≡ Taken
 unfolding reply
-reply-edit m (M.addType e t) q = refl
-reply-edit m (M.endType e type object last) q = refl
-reply-edit m (M.addRule e r) q = refl
-reply-edit m (M.reorder type object sequence new) q = refl
-reply-edit m (M.deleteRule type object sequence) q = refl
-reply-edit m (M.addRow w) q = refl
-reply-edit m (M.deleteRow w) q = refl
-reply-edit m (M.addPeriod e p) q = refl
-reply-edit m (M.endPeriod e kind number code first last) q = refl
-reply-edit m (M.ask r) q = absurd (false≢true (sym q))
+reply-edit m k = none-replied m (questionIn k)
 
 -- ---- the promise, by what is read
 

@@ -3,14 +3,15 @@ use Prim.Native.Nat.{ℕ}
 use mathlib.Core.Path.{_≡_}
 use mathlib.Core.Bool.{Bool, cond}
 use mathlib.Core.List.{List}
+use mathlib.Core.Option.{Option, some, none}
 use lib.Dec.{eqb}
 use Rattle.meaning.specs.Reading.{numbersRead}
 use Rattle.meaning.specs.Refusals.{wrong, refusal}
 use Rattle.meaning.specs.declared.Answer.{Answer}
 use Rattle.meaning.specs.declared.Answer.the-variants.{Taken, Refused, Judged}
-use Rattle.commands.specs.Asked.{asked, letterFor, commandFrom}
+use Rattle.commands.specs.Asked.{asked, questionAsked, letterFor, commandFrom}
+use Rattle.commands.specs.declared.Question.{Question}
 use Rattle.commands.specs.declared.What.{What}
-use Rattle.commands.specs.declared.What.the-variants as What
 use Rattle.commands.specs.declared.Command.{Command}
 use Rattle.book.specs.Lone.{loneBook}
 use Rattle.book.specs.Sound.{sound}
@@ -26,18 +27,14 @@ use Rattle.precheck.specs.Promise.{Submitted}
 unfoldable pub refusalOf : List ℕ → Command → ℕ
 refusalOf b c = refusal (loneBook (c .csd) b) (asked c)
 
--- what is replied where none holds, over the book as it is
+-- what is replied where none holds, over the book as it is: a question's verdict, or K
+unfoldable pub repliedTo : List ℕ → Option Question → Answer
+repliedTo b none = Taken
+repliedTo b (some q) = Judged (judgedBy b q)
+
 unfoldable pub replyTo : List ℕ → What → Answer
-replyTo b (What.AddType t) = Taken
-replyTo b (What.EndType number object last) = Taken
-replyTo b (What.AddRule r) = Taken
-replyTo b (What.Reorder new) = Taken
-replyTo b What.DeleteRule = Taken
-replyTo b What.AddRow = Taken
-replyTo b What.DeleteRow = Taken
-replyTo b (What.AddPeriod p) = Taken
-replyTo b (What.EndPeriod p) = Taken
-replyTo b (What.Ask q) = Judged (judgedBy b q)
+unfolding repliedTo
+replyTo b w = repliedTo b (questionAsked w)
 
 unfoldable pub answerOf : List ℕ → Command → Answer
 answerOf b c = cond (eqb (refusalOf b c) 0) (replyTo b (c .what)) (Refused (refusalOf b c))

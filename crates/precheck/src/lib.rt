@@ -28,18 +28,10 @@ fn reply(book: &[u8], c: Command) -> Answer
     ensures { λ r. ⌜ r ≡ replyTo (now (book .entry)) (c .what) ⌝ }
 {
     let what = c.what;
-    match what {
-        What::AddType(_) => Answer::Taken,
-        What::EndType(_, _, _) => Answer::Taken,
-        What::AddRule(_) => Answer::Taken,
-        What::Reorder(_) => Answer::Taken,
-        What::DeleteRule => Answer::Taken,
-        What::AddRow => Answer::Taken,
-        What::DeleteRow => Answer::Taken,
-        What::AddPeriod(_) => Answer::Taken,
-        What::EndPeriod(_) => Answer::Taken,
-        What::Ask(q) => Answer::Judged(judge(book, q)),
+    if let What::Ask(q) = what {
+        return Answer::Judged(judge(book, q));
     }
+    Answer::Taken
 }
 
 // What a command does to a book: the first refusal that holds is the answer, and the book stays; else the reply, and
