@@ -2,14 +2,14 @@
 use Prim.Native.Nat.{ℕ, suc, _+_, _-_, _≤_, _<_, min}
 use mathlib.Core.Path.{_≡_, refl, sym, ap, _∙_}
 use mathlib.Core.Bool.{Bool, false}
-use mathlib.Core.List.{List, [], _∷_, _++_}
+use mathlib.Core.List.{List, _++_}
 use lib.Dec.{leb}
 use borrow.Author.Tests.{leb-true, leb-false, le-leb, lt-leb}
 use Rattle.tables.proofs.Counts.{cases}
 use native.Mathlib.Omega.{arith}
 use native.Mathlib.Nat.{zero-add}
-use lib.ListN.{length, getD, set, take, drop, length-set, length-take, length-drop, length-append, take-append-drop}
-use lib.Seq.{paste, paste-zero, paste-suc, length-paste, drop-paste, take-length, take-append-seam, getD-append-seam, getD-drop, getD-take}
+use lib.ListN.{length, getD, set, take, drop, length-set, length-take, length-drop}
+use lib.Seq.{paste, paste-zero, paste-suc, drop-paste, take-length, getD-drop, getD-take}
 use Rattle.lines.specs.Ended.{short}
 use Rattle.lines.specs.Many.{laid}
 use Rattle.lines.specs.Keeping.{part, Keeps}

@@ -1,12 +1,12 @@
 -- A step over many lines submits them one by one; demand 3 for a text that comes in pieces.
-use Prim.Native.Nat.{ℕ, suc, _+_, _-_, _≤_, _<_}
+use Prim.Native.Nat.{ℕ, _+_, _≤_}
 use mathlib.Core.Path.{_≡_, refl, sym, ap, _∙_}
-use mathlib.Core.Bool.{Bool, true, false}
+use mathlib.Core.Bool.{false}
 use mathlib.Core.List.{List, [], _∷_, _++_, append-assoc, append-nil}
 use native.Mathlib.Omega.{arith}
 use native.Mathlib.Nat.{add-zero}
-use lib.ListN.{length, take, drop, length-append, length-drop, take-append-drop}
-use lib.Seq.{length-take-le, take-at, drop-at, drop-drop, append-snoc}
+use lib.ListN.{length, take, drop, length-append, take-append-drop}
+use lib.Seq.{length-take-le, take-at, drop-at, drop-drop}
 use Rattle.tables.proofs.Counts.{cases}
 use Rattle.meaning.specs.Printing.{printed}
 use Rattle.meaning.specs.Desk.{linesOf, output}
@@ -15,7 +15,7 @@ use Rattle.precheck.specs.Alone.{done, sent, answersTo}
 use Rattle.precheck.proofs.Alone.{one-alone}
 use Rattle.precheck.proofs.Submits.{keeps-promise}
 use Rattle.lines.specs.Many.{answerTo, bytesAfter, laid, writtenAs, Standing, room, one, many}
-use Rattle.lines.specs.Whole.{answersOf, bookAfter, joined, Submits, Came, Steps, Whole, DeskAlone}
+use Rattle.lines.specs.Whole.{answersOf, bookAfter, joined, Submits, Came, Steps, DeskAlone}
 use Rattle.lines.proofs.WholeText.{whole}
 
 -- ---- submitted one by one

@@ -5,8 +5,8 @@ use mathlib.Core.Bool.{Bool, true, false}
 use mathlib.Core.List.{List, [], _∷_, _++_}
 use native.Mathlib.Omega.{arith}
 use lib.Dec.{leb}
-use lib.ListN.{length, getD, set, take, drop, length-set, length-drop, length-append}
-use lib.Seq.{paste, paste-suc, length-paste, length-take-le, take-length, take-append-seam, getD-append-seam}
+use lib.ListN.{length, set, take, drop, length-set, length-drop, length-append}
+use lib.Seq.{paste, paste-suc, length-take-le, take-length, take-append-seam, getD-append-seam}
 use borrow.Author.Tests.{leb-true, lt-ltb}
 use Rattle.tables.proofs.Counts.{cases}
 use Rattle.meaning.specs.Text.{place}

@@ -240,9 +240,6 @@ pub reading-right : (line : List ℕ) (l : Letter) (v : List ℕ) → reading li
 unfolding reading
 reading-right line l v e = right-numbers (numbersRead line) l v e
 
-pub reading-parts : (line : List ℕ) (l : Letter) (v : List ℕ) → reading line ≡ asks l v → Parts line l v
-reading-parts line l v e = numbers-parts line l v (reading-right line l v e .0)
-
 pub reading-ranged : (line : List ℕ) (l : Letter) (v : List ℕ) → reading line ≡ asks l v → Ranged l v
 reading-ranged line l v e = numbers-ranged line l v (reading-right line l v e .0)
 

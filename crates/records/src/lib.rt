@@ -3,7 +3,6 @@ ghost use mathlib.Core.Path.{_≡_};
 ghost use Prim.Native.Nat.{_+_, _≤_};
 ghost use lib.Dec.{eqb, ltb};
 ghost use Rattle.tables.specs.Count.{bit, allBelow};
-ghost use Rattle.meaning.specs.Fields.{within};
 ghost use Rattle.meaning.specs.Keys.{filled, isRule};
 ghost use Rattle.meaning.specs.Text.{same};
 ghost use Rattle.meaning.specs.Refusals.{outside};
@@ -11,10 +10,10 @@ ghost use Rattle.records.specs.Said.{typeOf, ruleOf, rowOf, periodOf};
 ghost use Rattle.records.specs.Criteria.{belongs, agrees, filledCount};
 ghost use Rattle.records.specs.Values.{firstDifference};
 ghost use Rattle.records.specs.Asks.{typeMeets, ruleMeets, rowMeets, periodMeets};
-pub use basics::and;
-pub use basics::no;
-pub use basics::one_if;
-pub use basics::or;
+use basics::and;
+use basics::no;
+use basics::one_if;
+use basics::or;
 use places::Period;
 use places::RestrictionType;
 use places::Row;
@@ -263,18 +262,4 @@ pub fn period_meets(t: Period, q: PeriodAsk) -> bool
             period_outside(t, kind, number, code, first, last)
         }
     }
-}
-
-// ---- Kept for crates that do not yet use `basics` (`within`, `byte_within`).
-
-pub fn inside(low: u32, x: u32, high: u32) -> bool
-    ensures { λ r. ⌜ r ≡ within low high x ⌝ }
-{
-    basics::within(low, high, x)
-}
-
-pub fn small(low: u8, x: u8, high: u8) -> bool
-    ensures { λ r. ⌜ r ≡ within low high x ⌝ }
-{
-    basics::byte_within(low, high, x)
 }

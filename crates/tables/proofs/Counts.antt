@@ -185,27 +185,10 @@ module _ {R : Type 0} where
   count-either p q [] = omega arith
   count-either p q (x ∷ l) = omega (arith, count-either p q l, bit-or (p x) (q x))
 
-  pub count-never : (l : List R) → count (λ x. false) l ≡ 0
-  unfolding count
-  count-never [] = refl
-  count-never (x ∷ l) = omega (arith, count-never l)
-
   pub count-alter : (p : R → Bool) (g : R → R) (l : List R) → count p (alter g l) ≡ count (λ x. p (g x)) l
   unfolding count alter
   count-alter p g [] = refl
   count-alter p g (x ∷ l) = rw (count-alter p g l)
-
-  pub keep-alter : (q : R → Bool) (g : R → R) (l : List R) → ((x : R) → q (g x) ≡ q x)
-      → keep q (alter g l) ≡ alter g (keep q l)
-  unfolding keep alter
-  keep-alter q g [] h = refl
-  keep-alter q g (x ∷ l) h = cases (q x) (λ e. rw (h x, e, keep-alter q g l h)) (λ e. rw (h x, e, keep-alter q g l h))
-
-  pub alter-still : (q : R → Bool) (g : R → R) (l : List R) → ((x : R) → q x ≡ true → g x ≡ x)
-      → alter g (keep q l) ≡ keep q l
-  unfolding keep alter
-  alter-still q g [] h = refl
-  alter-still q g (x ∷ l) h = cases (q x) (λ e. rw (e, h x e, alter-still q g l h)) (λ e. rw (e, alter-still q g l h))
 
   pub every-count : (p : R → Bool) (l : List R) → every p l ≡ eqb (count (λ x. not (p x)) l) 0
   unfolding every count

@@ -2,7 +2,6 @@
 use Prim.Native.Nat.{_≤_}
 use mathlib.Core.Path.{_≡_}
 use lib.ListN.{length}
-use native.Mathlib.Omega.{arith}
 use borrow.Author.Needs.{needs}
 use Rattle.desk.proofs.answer_all.Statement.{statement}
 use Rattle.desk.proofs.answer_all.Tie as tie

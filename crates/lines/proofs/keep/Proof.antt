@@ -1,7 +1,6 @@
 -- `lines::keep` meets its contract. Assumes nothing.
 use Rattle.lines.proofs.Laying.{Moved, none-moved, one-moved, all-moved, reads-inside, writes-inside}
 use Prim.Native.Nat.{_-_}
-use lib.ListN.{length}
 use native.Mathlib.Omega.{arith}
 use borrow.Author.Needs.{needs}
 use Rattle.lines.proofs.keep.Statement.{statement}

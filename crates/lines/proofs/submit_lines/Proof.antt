@@ -2,7 +2,6 @@
 use Rattle.lines.proofs.Turning.{Going, going-first, going-on, going-full, going-out, room-for, comes-nearer}
 use Prim.Native.Nat.{_-_}
 use lib.ListN.{length}
-use native.Mathlib.Omega.{arith}
 use borrow.Author.Needs.{needs}
 use Rattle.lines.proofs.submit_lines.Statement.{statement}
 use Rattle.lines.proofs.submit_lines.Tie as tie
