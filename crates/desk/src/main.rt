@@ -4,14 +4,15 @@ use libc::STDERR_FILENO;
 use libc::STDIN_FILENO;
 use libc::STDOUT_FILENO;
 use line::Line;
+use places::SIZE;
 ghost use Prim.Native.Nat.{_+_, _≤_};
 ghost use lib.ListN.{length};
 
 // ---- A text is read in pieces, and its lines are answered before more is waited for.
 
 // Space for a book; large arrays are made in functions of their own.
-fn book_space() -> [u8; 51200] {
-    [0u8; 51200]
+fn book_space() -> [u8; SIZE] {
+    [0u8; SIZE]
 }
 
 // Answers ended lines of a text, as many as there is space for, and returns how many bytes of it were read.

@@ -3,10 +3,11 @@
 use libc::STDIN_FILENO;
 use libc::STDOUT_FILENO;
 use meaning::Answer;
+use places::SIZE;
 
 // Space for a book; large arrays are made in functions of their own.
-fn book_space() -> [u8; 51200] {
-    [0u8; 51200]
+fn book_space() -> [u8; SIZE] {
+    [0u8; SIZE]
 }
 
 fn text_space() -> [u8; 600000] {
