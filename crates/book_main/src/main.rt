@@ -1,6 +1,7 @@
-// Empties and fills a book, damages it one byte at a time as the lines of standard input say, and writes for each whether it is
-// sound. A line is a table (T types, R rules, M rows, A periods), a place, an offset in it, the byte to stand there, each number in
-// four digits, and what that is. Depositories 1 and 3 to 7 hold their whole quotas; 2 holds what can be damaged alone, and 8 nothing.
+// Empties and fills a book, damages it one byte at a time as the lines of standard input say, and writes for each
+// whether it is sound. A line is a table (T types, R rules, M rows, A periods), a place, an offset in it, the byte to
+// stand there, each number in four digits, and what that is. Depositories 1 and 3 to 7 hold their whole quotas; 2 holds
+// what can be damaged alone, and 8 nothing.
 use basics::byte_at;
 use basics::low;
 use basics::wide;

@@ -1,5 +1,6 @@
-// The desk program (document 01, 'The desk program'). Without an argument it answers standard input; with files, each in turn over a book emptied for it, where '-' is
-// standard input; with 'keler CSD DAY FIRST LAST' it prints the KELER set. What it decides stands in proved functions on slices.
+// The desk program (document 01, 'The desk program'). Without an argument it answers standard input; with files, each
+// in turn over a book emptied for it, where '-' is standard input; with 'keler CSD DAY FIRST LAST' it prints the KELER
+// set. What it decides stands in proved functions on slices.
 use libc::STDERR_FILENO;
 use libc::STDIN_FILENO;
 use libc::STDOUT_FILENO;
@@ -25,7 +26,8 @@ fn answer_some(book: &mut [u8], text: &[u8], out: &mut [u8]) -> usize
     p.read
 }
 
-// Answers the ended lines of the first n bytes of a text, and returns how many bytes of the begun line stand at its front then.
+// Answers the ended lines of the first n bytes of a text, and returns how many bytes of the begun line stand at its
+// front then.
 fn answer_text(book: &mut [u8], text: &mut [u8], n: usize, out: &mut [u8]) -> usize
     requires { ⌜ n ≤ length (now text) ⌝ }
     ensures { λ r. ⌜ r ≤ 81 ⌝ }
@@ -67,7 +69,8 @@ fn answer_last(book: &mut [u8], text: &mut [u8], held: usize, out: &mut [u8])
     }
 }
 
-// Answers until the end of input. A proved loop has to end, so it counts its turns down from a number that no input uses up.
+// Answers until the end of input. A proved loop has to end, so it counts its turns down from a number that no input
+// uses up.
 fn answer_all(fd: i32, book: &mut [u8], text: &mut [u8], out: &mut [u8])
     requires { ⌜ 82 ≤ length (now text) ⌝ }
 {

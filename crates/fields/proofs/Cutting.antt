@@ -1,5 +1,6 @@
--- What an index in a line has to do with the fields of the meaning. The loop's record, `FoundTo`, is its invariant: what was passed before index i, with what is
--- left from i on, gives the whole. The laws take just what the code knows at that place, so that `search LAW` closes the need.
+-- What an index in a line has to do with the fields of the meaning. The loop's record, `FoundTo`, is its invariant:
+-- what was passed before index i, with what is left from i on, gives the whole. The laws take just what the code knows
+-- at that place, so that `search LAW` closes the need.
 use mathlib.Core.Path.{_≡_, refl, sym, _∙_}
 use mathlib.Core.Bool.{Bool, true, false, cond}
 use mathlib.Core.List.{List, [], _∷_}

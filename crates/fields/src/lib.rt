@@ -19,14 +19,16 @@ pub fn find(s: &[u8], at: usize, c: u8) -> usize
     i
 }
 
-// The end of the field that begins at an index: the next comma, or the end of the line. Past that end it is the index itself.
+// The end of the field that begins at an index: the next comma, or the end of the line. Past that end it is the index
+// itself.
 pub fn cut(line: &[u8], at: usize) -> usize
     ensures { λ r. ⌜ Cuts (now (line .entry)) at r ⌝ }
 {
     find(line, at, b',')
 }
 
-// The end of the field after the comma at an index. Where the line has ended there is no field, and it is the index itself.
+// The end of the field after the comma at an index. Where the line has ended there is no field, and it is the index
+// itself.
 pub fn end_after(line: &[u8], comma: usize) -> usize
     ensures { λ r. ⌜ Passes (now (line .entry)) comma r ⌝ }
 {
@@ -49,7 +51,8 @@ impl<'a> LineReader<'a> {
         LineReader { line, at }
     }
 
-    // Takes the next field and moves on to its end. The field is what stands between the comma at the old position and the new one.
+    // Takes the next field and moves on to its end. The field is what stands between the comma at the old position and
+    // the new one.
     pub fn next(self) -> LineReader<'a>
         ensures { λ r. ⌜ (r .line ≡ self .entry .line) × Passes (now (self .entry .line)) (self .entry .at) (r .at) ⌝ }
     {

@@ -1,4 +1,5 @@
--- What a caller of `keler_line` learns from its result alone: up to 6 it is the refusal, above 6 the length of the line.
+-- What a caller of `keler_line` learns from its result alone: up to 6 it is the refusal, above 6 the length of the
+-- line.
 use Prim.Native.Nat.{ℕ, _≤_, _<_}
 use mathlib.Core.Path.{_≡_}
 use mathlib.Core.Bool.{Bool, true, false, not, cond}

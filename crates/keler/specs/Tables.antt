@@ -4,7 +4,8 @@ use mathlib.Core.List.{List, [], _∷_}
 use lib.ListN.{getD}
 use Rattle.meaning.specs.Keler.{kelerRows}
 
--- type, object, sequence, movement, transaction, and the codes of party, account and security: their places among a row's thirteen numbers
+-- type, object, sequence, movement, transaction, and the codes of party, account and security: their places among a
+-- row's thirteen numbers
 abbrev pub columns : List ℕ
 columns = 0 ∷ 1 ∷ 2 ∷ 4 ∷ 6 ∷ 9 ∷ 10 ∷ 11 ∷ []
 

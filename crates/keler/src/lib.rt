@@ -53,7 +53,8 @@ fn put(w: Written, out: &mut [u8]) -> usize
     n
 }
 
-// Writes line 1 to 55 of the set for a csd, a day, a first and a last day, and returns its length; or returns 5 or 6 and writes nothing.
+// Writes line 1 to 55 of the set for a csd, a day, a first and a last day, and returns its length; or returns 5 or 6
+// and writes nothing.
 pub fn keler_line(number: u32, csd: u32, day: u32, first: u32, last: u32, out: &mut [u8]) -> usize
     ensures { λ r. ⌜ Steps number csd day first last (now (out .entry)) r (now (out .exit)) ⌝ }
 {

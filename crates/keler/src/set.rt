@@ -51,12 +51,14 @@ const KELER_RULES: [[u32; 5]; 13] = [
     [5, 2, 1, P, 128],
 ];
 
-// The movement DELI is the first word of its form; the transaction CORP is the number of its four letters. 0 is an empty value.
+// The movement DELI is the first word of its form; the transaction CORP is the number of its four letters. 0 is an
+// empty value.
 const DELI: u32 = 1;
 
 const CORP: u32 = 1129271888;
 
-// Type, object, sequence; movement, transaction; the codes of party, account and security. The other five values are empty in every row.
+// Type, object, sequence; movement, transaction; the codes of party, account and security. The other five values are
+// empty in every row.
 const KELER_ROWS: [[u32; 8]; 32] = [
     [1, 1, 1, 0, 0, 101, 0, 0],
     [1, 1, 1, 0, 0, 102, 0, 0],

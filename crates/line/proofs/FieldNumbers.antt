@@ -17,7 +17,7 @@ use Rattle.fields.specs.Cut.{more, Passes}
 use Rattle.line.specs.Values.{valueOf}
 use Rattle.line.specs.Table.{formsAt, Counted}
 use Rattle.line.specs.Line.{firstRead, putAt, inRow}
-use Rattle.line.proofs.Padding.{sets-padded}
+use Rattle.line.proofs.CommandPadding.{sets-padded}
 use Rattle.line.specs.declared.forms.Value.{Value}
 use Rattle.line.specs.declared.forms.Value.the-variants.{Is}
 
@@ -74,7 +74,8 @@ store-next k (some n) none (some ns) = refl
 store-next k (some n) (some row) none = refl
 store-next k (some n) (some row) (some ns) = rw add-one
 
--- before field k of letter p, whose comma stands at i: what is in the row, with what is still to be read and stored, gives the whole
+-- before field k of letter p, whose comma stands at i: what is in the row, with what is still to be read and stored,
+-- gives the whole
 pub record RowTo (p : ℕ) (l : List ℕ) (start : ℕ) (row : Option (List ℕ)) (i k : ℕ) : Type 0 where
   pub left : stored k row (readAll (drop k (formsAt p)) (more (drop i l))) ≡ inRow (readAll (formsAt p) (more (drop start l)))
 

@@ -1,9 +1,9 @@
 pub mod LineReturns
 pub mod Loops
 pub mod Capped
-pub mod Padding
+pub mod CommandPadding
 pub mod TableRule
-pub mod Rows
+pub mod ShapeRows
 pub mod FieldNumbers
 pub mod Readings
 pub mod LineCallers

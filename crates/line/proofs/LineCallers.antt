@@ -1,4 +1,5 @@
--- What a caller of `read_line` learns, from its contract alone. `asked` and `was-refused` are the two cases, by the refusal.
+-- What a caller of `read_line` learns, from its contract alone. `asked` and `was-refused` are the two cases, by the
+-- refusal.
 use Prim.Native.Nat.{ℕ, _≤_, _<_}
 use mathlib.Core.Path.{_≡_, refl, ap, sym, _∙_}
 use mathlib.Core.Bool.{Bool, true, false, cond, _&&_}
@@ -20,7 +21,7 @@ use Rattle.meaning.proofs.Names.{numbers-csd}
 use Rattle.meaning.specs.Forms.{letterByte}
 use Rattle.line.specs.Line.{lineOf}
 use Rattle.line.specs.declared.reading.Line.{Line}
-use Rattle.line.proofs.Padding.{command-padded}
+use Rattle.line.proofs.CommandPadding.{command-padded}
 
 -- ---- refusals
 

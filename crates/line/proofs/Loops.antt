@@ -1,5 +1,6 @@
--- What a loop over indices has to do with the lists of the meaning. Each loop has a record, its invariant: what was found before index i, with what is left
--- from i on, gives the whole. Its laws take just what the code knows at that place, so that `search LAW` closes the need.
+-- What a loop over indices has to do with the lists of the meaning. Each loop has a record, its invariant: what was
+-- found before index i, with what is left from i on, gives the whole. Its laws take just what the code knows at that
+-- place, so that `search LAW` closes the need.
 use mathlib.Core.Path.{_≡_, refl, ap, sym, _∙_}
 use mathlib.Core.Bool.{Bool, true, false, _&&_, and-assoc, and-true}
 use mathlib.Core.List.{List, [], _∷_, foldl}

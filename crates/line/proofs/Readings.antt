@@ -22,7 +22,7 @@ use Rattle.line.specs.Table.{rows, shapeAt, atRow, formsAt, asShape, fir
 use Rattle.line.specs.Line.{inRow, valuesOf, lineOf, numbersLine}
 use Rattle.line.specs.declared.reading.Values.{Values}
 use Rattle.line.specs.declared.reading.Line.{Line}
-use Rattle.line.proofs.Rows.{no-row, first-at, row-some, row-none}
+use Rattle.line.proofs.ShapeRows.{no-row, first-at, row-some, row-none}
 
 -- ---- bytes
 

@@ -154,7 +154,8 @@ fn kind(f: &[u8]) -> Value
 
 // ---- the forms of document 01's fields, by number
 
-// Numbers from 1 to what MOST says: csd, type, object, processing, sequence, criteria, number (of a party, an account or a security), party type.
+// Numbers from 1 to what MOST says: csd, type, object, processing, sequence, criteria, number (of a party, an account
+// or a security), party type.
 pub const CS: u8 = 0;
 
 pub const TY: u8 = 1;

@@ -1,4 +1,5 @@
-// Reads a line of bytes: refusals 2 to 5, or its letter and the numbers of its fields (document 01, 'Lines' and the refusals).
+// Reads a line of bytes: refusals 2 to 5, or its letter and the numbers of its fields (document 01, 'Lines' and the
+// refusals).
 use crate::ALLOWED;
 use crate::count;
 use crate::every;

@@ -1,5 +1,5 @@
-// Reads lines from standard input and writes of each its refusal or, where it is read, its letter; then answers in their
-// printed forms. tools/line_vectors.py writes what it reads and must write.
+// Reads lines from standard input and writes of each its refusal or, where it is read, its letter; then answers in
+// their printed forms. tools/line_vectors.py writes what it reads and must write.
 use basics::pick_byte;
 use libc::STDIN_FILENO;
 use libc::STDOUT_FILENO;

@@ -1,4 +1,5 @@
--- A text that is still coming in: its lines that are ended by byte 10, and the line that is begun behind them. Assumes nothing.
+-- A text that is still coming in: its lines that are ended by byte 10, and the line that is begun behind them. Assumes
+-- nothing.
 use Prim.Native.Nat.{ℕ}
 use mathlib.Core.Bool.{Bool, true, false, cond}
 use mathlib.Core.List.{List, [], _∷_}
@@ -6,7 +7,8 @@ use lib.Dec.{eqb}
 use lib.ListN.{take}
 use Rattle.tables.specs.Count.{has}
 
--- a byte, told whether it is byte 10, in front of the ended lines of the bytes behind it; a line that is not ended is none of them
+-- a byte, told whether it is byte 10, in front of the ended lines of the bytes behind it; a line that is not ended is
+-- none of them
 abbrev pub inFront : Bool → ℕ → List (List ℕ) → List (List ℕ)
 inFront true c ls = [] ∷ ls
 inFront false c [] = []

@@ -1,4 +1,5 @@
--- A text that is read in pieces is answered as if it had come whole. Stated here, proved in proofs/WholeText. Assumes nothing.
+-- A text that is read in pieces is answered as if it had come whole. Stated here, proved in proofs/WholeText. Assumes
+-- nothing.
 use Prim.Native.Nat.{ℕ, _+_, _≤_}
 use mathlib.Core.Path.{_≡_}
 use mathlib.Core.Bool.{false}
@@ -30,7 +31,8 @@ Submits = (b : List ℕ) (lines : List (List ℕ)) → Run b lines (answersOf b 
 
 -- ---- a step over many lines
 
--- it answers the first of them as if they were submitted one by one, and stops at the last or where there is no room for an answer
+-- it answers the first of them as if they were submitted one by one, and stops at the last or where there is no room
+-- for an answer
 pub record Came (lines : List (List ℕ)) (s r : Standing) : Type 0 where
   pub done : List (List ℕ)
   pub rest : List (List ℕ)
@@ -45,8 +47,8 @@ Steps = (lines : List (List ℕ)) (s : Standing) → s .written ≤ length (s .o
 
 -- ---- pieces
 
--- the lines that the desk answers, from the begun line that it holds and the pieces that come: after each piece those that are ended, and at the end of input
--- the line that is begun, if there is one
+-- the lines that the desk answers, from the begun line that it holds and the pieces that come: after each piece those
+-- that are ended, and at the end of input the line that is begun, if there is one
 unfoldable pub linesIn : List ℕ → List (List ℕ) → List (List ℕ)
 linesIn held [] = linesOf held
 linesIn held (piece ∷ pieces) = ended (held ++ piece) ++ linesIn (short (begun (held ++ piece))) pieces

@@ -1,4 +1,5 @@
-// A text of lines that comes in pieces: its ended lines are answered one by one over a lent book, and the line that is begun is kept for the next piece.
+// A text of lines that comes in pieces: its ended lines are answered one by one over a lent book, and the line that is
+// begun is kept for the next piece.
 ghost use mathlib.Core.Path.{_≡_};
 ghost use Prim.Native.Nat.{_+_, _-_, _≤_, min};
 ghost use lib.Dec.{leb};
@@ -61,8 +62,9 @@ fn answer_line(book: &mut [u8], line: &[u8], sound: bool, out: &mut [u8], at: us
     put_answer(out, at, a)
 }
 
-// Answers the ended lines of a text one by one, as `submit` does, and writes the answers into a lent space. Whether the book is sound is found once: an
-// accepted edit leaves it sound. It stops where an answer might not fit, and says how far it came.
+// Answers the ended lines of a text one by one, as `submit` does, and writes the answers into a lent space. Whether the
+// book is sound is found once: an accepted edit leaves it sound. It stops where an answer might not fit, and says how
+// far it came.
 pub fn submit_lines(book: &mut [u8], text: &[u8], out: &mut [u8]) -> Progress
     ensures { λ r. ⌜ Answered (now (book .entry)) (now (text .entry)) (now (out .entry)) r (now (book .exit)) (now (out .exit)) ⌝ }
 {
@@ -96,8 +98,9 @@ fn minus(a: usize, b: usize) -> usize
     if a < b { 0 } else { a - b }
 }
 
-// Moves the bytes from an index up to another to the front of a text and returns how many they are: the line that is begun, which goes on with what
-// is read next. Of more than 81 bytes it keeps 81, since a line over 80 bytes is refused whatever follows.
+// Moves the bytes from an index up to another to the front of a text and returns how many they are: the line that is
+// begun, which goes on with what is read next. Of more than 81 bytes it keeps 81, since a line over 80 bytes is refused
+// whatever follows.
 pub fn keep(text: &mut [u8], from: usize, to: usize) -> usize
     ensures { λ r. ⌜ Keeps (now (text .entry)) from to r (now (text .exit)) ⌝ }
 {

@@ -1,4 +1,5 @@
--- No refusal is given exactly where no condition holds; what is not refused meets no condition, each found by its number.
+-- No refusal is given exactly where no condition holds; what is not refused meets no condition, each found by its
+-- number.
 use Prim.Native.Nat.{ℕ}
 use mathlib.Core.Path.{_≡_, refl}
 use mathlib.Core.Bool.{Bool, true, false, cond}

@@ -1,4 +1,5 @@
--- A number's decimal digits, one at a time: of a number below 10 the digit, of any other its tenth's digits and the last one.
+-- A number's decimal digits, one at a time: of a number below 10 the digit, of any other its tenth's digits and the
+-- last one.
 use Prim.Native.Nat.{ℕ, zero, suc, _+_, _/_, _%_, _≤_, _<_}
 use mathlib.Core.Path.{_≡_, refl, ap, sym}
 use mathlib.Core.List.{[], _∷_, _++_}

@@ -1,4 +1,5 @@
--- The order of a lone book's records carries no meaning: books with the same records give the same answers, line by line and for whole lists.
+-- The order of a lone book's records carries no meaning: books with the same records give the same answers, line by
+-- line and for whole lists.
 use Prim.Native.Nat.{ℕ, zero, suc}
 use mathlib.Core.Path.{_≡_, refl, ap, ap₂, _∙_, fun-ext}
 use mathlib.Core.Bool.{Bool, not, _&&_}

@@ -1,4 +1,5 @@
--- What is read of a line is in document 01's ranges: the number of a field is in its form's range, and what a command would put into a book fits.
+-- What is read of a line is in document 01's ranges: the number of a field is in its form's range, and what a command
+-- would put into a book fits.
 use Prim.Native.Nat.{ℕ, zero, suc, _+_, _*_, _/_, _%_, _≤_, _<_}
 use mathlib.Core.Path.{_≡_, refl, ap, sym}
 use mathlib.Core.Bool.{Bool, true, false, _&&_, _||_, or-true, false≢true}

@@ -1,5 +1,5 @@
--- What an accepted edit makes of a lone book (document 01, 'One depository alone'), and when what it puts in is in range. Assumes
--- nothing.
+-- What an accepted edit makes of a lone book (document 01, 'One depository alone'), and when what it puts in is in
+-- range. Assumes nothing.
 use Prim.Native.Nat.{ℕ}
 use mathlib.Core.Bool.{Bool, true}
 use mathlib.Core.List.{List, _∷_}
@@ -62,8 +62,8 @@ withRows ws b = record { types = b .types; rules = b .rules; rows = ws; periods 
 abbrev pub withPeriods : List Period → Book → Book
 withPeriods ps b = record { types = b .types; rules = b .rules; rows = b .rows; periods = ps }
 
--- T, R, M and A put in the record that the line gives; E and Z make the named record's last day the new one; O gives the rule, and each of its
--- rows, the new sequence; D and N take the named record out
+-- T, R, M and A put in the record that the line gives; E and Z make the named record's last day the new one; O gives
+-- the rule, and each of its rows, the new sequence; D and N take the named record out
 unfoldable pub edited : Book → Command → Book
 unfolding without change isType isRule ofRule isRow isPeriod
 edited b (addType day t) = withTypes (t ∷ b .types) b

@@ -62,7 +62,8 @@ given false n = none
 abbrev pub numbered : (ℕ → Bool) → List ℕ → Option ℕ
 numbered p f = given (isNumber f && p (decimal f)) (decimal f)
 
--- the number that a field of that form gives: of free letters their word's number, of a choice its place in the list, of an empty field 0
+-- the number that a field of that form gives: of free letters their word's number, of a choice its place in the list,
+-- of an empty field 0
 unfoldable pub read : Form → List ℕ → Option ℕ
 unfolding isNumber every
 read (upTo n) f = numbered (within 1 n) f

@@ -100,8 +100,8 @@ module _ (b : Book) (q : Question) where
   decided zero = nobody
   decided (suc type) = by (suc type) (deciding (suc type))
 
-  -- by the types that reject, hold for validation and hold for the party, 0 for none: a rejected instruction shows no hold, an
-  -- accepted one may carry both
+  -- by the types that reject, hold for validation and hold for the party, 0 for none: a rejected instruction shows no
+  -- hold, an accepted one may carry both
   unfoldable pub verdict : ℕ → ℕ → ℕ → Verdict
   unfolding decided
   verdict zero validating holding =

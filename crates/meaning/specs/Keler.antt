@@ -1,4 +1,5 @@
--- The KELER set's 55 lines, from three tables, and the step that writes one of them (document 01, 'The KELER set'). Assumes nothing.
+-- The KELER set's 55 lines, from three tables, and the step that writes one of them (document 01, 'The KELER set').
+-- Assumes nothing.
 use Prim.Native.Nat.{ℕ, _-_}
 use mathlib.Core.Bool.{not, _&&_}
 use mathlib.Core.List.{List, [], _∷_, _++_, map}

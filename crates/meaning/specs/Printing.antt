@@ -17,7 +17,8 @@ textOf Taken = bytes "K"
 textOf (Refused n) = bytes "F"
 textOf (Judged v) = verdictText (v .rejected)
 
--- the paper's numbers of each case: the refusal's, or type and sequence deciding rejection, validation hold and party hold, 0, 0 where none
+-- the paper's numbers of each case: the refusal's, or type and sequence deciding rejection, validation hold and party
+-- hold, 0, 0 where none
 unfoldable pub numbersOf : Answer → List ℕ
 numbersOf Taken = []
 numbersOf (Refused n) = n ∷ []

@@ -1,5 +1,5 @@
--- The records of a lone book, and what a line asks, by name (document 01, 'Records' and the table of letters). Assumes nothing.
--- A lone book is one depository's, so its records do not bear the csd.
+-- The records of a lone book, and what a line asks, by name (document 01, 'Records' and the table of letters). Assumes
+-- nothing. A lone book is one depository's, so its records do not have the csd.
 use Prim.Native.Nat.{ℕ}
 use mathlib.Core.List.{List, [], _∷_}
 use mathlib.Core.Option.{Option, some, none}

@@ -1,5 +1,5 @@
--- When a lone book is sound: every record obeys document 01's ranges, keys, quotas and periods, every rule has its type, and every row its
--- rule with that rule's criteria filled. Assumes nothing.
+-- When a lone book is sound: every record obeys document 01's ranges, keys, quotas and periods, every rule has its
+-- type, and every row its rule with that rule's criteria filled. Assumes nothing.
 use Prim.Native.Nat.{ℕ}
 use mathlib.Core.Bool.{Bool, not, _&&_}
 use lib.Dec.{eqb, leb}

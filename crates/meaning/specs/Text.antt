@@ -32,7 +32,8 @@ place c (x ∷ xs) = cond (eqb x c) 0 (suc (place c xs))
 abbrev pub decimal : List ℕ → ℕ
 decimal = foldl (λ n c. 10 * n + (c - 48)) 0
 
--- letters as a number: they are its digits in base 256, the first the highest, so that numbers rise as the words do in ASCII
+-- letters as a number: they are its digits in base 256, the first the highest, so that numbers rise as the words do in
+-- ASCII
 abbrev pub word : List ℕ → ℕ
 word = foldl (λ n c. 256 * n + c) 0
 

@@ -1,4 +1,5 @@
--- `desk::answer_all` meets its contract. The invariant: at most 81 bytes are held, and every lent space keeps its size. Assumes nothing.
+-- `desk::answer_all` meets its contract. The invariant: at most 81 bytes are held, and every lent space keeps its size.
+-- Assumes nothing.
 use Prim.Native.Nat.{_≤_}
 use mathlib.Core.Path.{_≡_}
 use lib.ListN.{length}

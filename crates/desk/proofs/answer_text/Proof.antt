@@ -1,4 +1,5 @@
--- `desk::answer_text` meets its contract. The invariant: what was read lies within the text, and every lent space keeps its size. Assumes nothing.
+-- `desk::answer_text` meets its contract. The invariant: what was read lies within the text, and every lent space keeps
+-- its size. Assumes nothing.
 use Prim.Native.Nat.{_≤_, _-_}
 use mathlib.Core.Path.{_≡_}
 use lib.ListN.{length}

@@ -1,6 +1,7 @@
--- `fields::LineReader::next` meets its contract: a walk of its MIR, by hand. The struct is taken apart, `end_after` is called on the slice and the number, and a struct is made of
--- the slice and the number that it gave. All that the proof knows of `end_after` is that it meets its contract.
--- The struct is Copy: what it owns is had three times. One copy is kept for the exit, of one what line owns goes to the callee, and one, with the new number's facts, is the result's.
+-- `fields::LineReader::next` meets its contract: a walk of its MIR, by hand. The struct is taken apart, `end_after` is
+-- called on the slice and the number, and a struct is made of the slice and the number that it gave. All that the proof
+-- knows of `end_after` is that it meets its contract. The struct is Copy: what it owns is had three times. One copy is
+-- kept for the exit, of one what line owns goes to the callee, and one, with the new number's facts, is the result's.
 -- Assumes nothing.
 use mathlib.Core.Path.{_≡_, refl, ap}
 use Prim.Native.Nat.{ℕ, _<_, _^_}

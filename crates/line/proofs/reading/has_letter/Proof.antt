@@ -5,7 +5,7 @@ use native.Mathlib.Omega.{arith}
 use borrow.Author.Needs.{needs}
 use Rattle.meaning.specs.Forms.{hasLetter}
 use Rattle.line.specs.Table.{rows}
-use Rattle.line.proofs.Rows.{SoughtTo, sought-first, letter-here, letter-next, letter-none}
+use Rattle.line.proofs.ShapeRows.{SoughtTo, sought-first, letter-here, letter-next, letter-none}
 use Rattle.line.proofs.reading.has_letter.Statement.{statement}
 use Rattle.line.proofs.reading.has_letter.Tie as tie
 

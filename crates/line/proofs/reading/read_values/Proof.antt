@@ -1,7 +1,8 @@
--- `line::reading::read_values` meets its contract: a walk of its MIR, by hand, with a loop. A turn takes the next field by `LineReader::next`, and calls `with_field` on the two positions.
--- The loop's variant is k, with what the invariant states: the reader's position, the row, and what is still to be read. The reader always holds the line that was passed, so what it owns
--- is made of a copy of what line owns. All that the proof knows of the functions called is that each meets its contract.
--- Assumes nothing.
+-- `line::reading::read_values` meets its contract: a walk of its MIR, by hand, with a loop. A turn takes the next field
+-- by `LineReader::next`, and calls `with_field` on the two positions. The loop's variant is k, with what the invariant
+-- states: the reader's position, the row, and what is still to be read. The reader always holds the line that was
+-- passed, so what it owns is made of a copy of what line owns. All that the proof knows of the functions called is that
+-- each meets its contract. Assumes nothing.
 use mathlib.Core.Path.{_≡_, refl, ap, _∙_}
 use Prim.Native.Nat.{ℕ, _+_, _-_, _<_, _^_}
 use native.Mathlib.Omega.{arith}
