@@ -1,5 +1,6 @@
 -- The place found, for each table: where the depository's list has a record as asked it is a place of one, and a free
--- place is found where the depository has room. Written by tools/loops.py.
+-- place is found where the depository has room.
+-- Written by tools/loops.py: change that, then run tools/generate.
 use Prim.Native.Nat.{ℕ, _≤_, _<_}
 use mathlib.Core.Path.{_≡_, refl}
 use mathlib.Core.Bool.{true}

@@ -1,4 +1,5 @@
--- What a store at one place leaves of the lone lists. Written by tools/edits.py.
+-- What a store at one place leaves of the lone lists.
+-- Written by tools/edits.py: change that, then run tools/generate.
 use Prim.Native.Nat.{ℕ, _≤_, _<_}
 use mathlib.Core.Path.{_≡_, refl, ap, sym, _∙_}
 use mathlib.Core.Bool.{Bool, true}

@@ -1,4 +1,5 @@
--- A store keeps every place free or a depository's. Written by tools/placed.py.
+-- A store keeps every place free or a depository's.
+-- Written by tools/placed.py: change that, then run tools/generate.
 use Prim.Native.Nat.{ℕ, _≤_, _<_}
 use mathlib.Core.Path.{_≡_}
 use mathlib.Core.Bool.{Bool, true, _&&_, _||_, or-true}

@@ -1,5 +1,6 @@
 -- THE STORES: that place reads back as the record, every other place and every other table reads as before, the length
--- stays. Written by tools/places.py.
+-- stays.
+-- Written by tools/places.py: change that, then run tools/generate.
 use Prim.Native.Nat.{ℕ, _+_, _≤_, _<_}
 use mathlib.Core.Path.{_≡_, refl, ap, _∙_}
 use mathlib.Core.List.{List, [], _∷_}
