@@ -242,8 +242,9 @@ for s, n, places, quota, fields, nums, size, at0 in layout:
 """
 write(f"{C}/proofs/Stores.antt", law)
 
-# ---- whose a place is
-for s, n, places, quota, fields, nums, size, at0 in layout:
+# ---- whose a place is, and its record
+for t in TABLES:
+    n = t.name
     write(f"{C}/proofs/{n}_csd/Proof.antt", f"""-- `places::{n}_csd` meets its contract. Assumes nothing.
 use borrow.Author.Needs.{{needs}}
 use Rattle.places.specs.Layout.{{{n}At}}
@@ -257,4 +258,17 @@ unfolding {n}At
     (λ c κs. search needs)
     (λ c κs. search needs)
     (λ c. search byte-read))
+""")
+    calls = "    (λ c κs. search needs)\n" * (1 + len(t.numbers))  # the address, then each number
+    write(f"{C}/proofs/{n}_at/Proof.antt", f"""-- `places::{n}_at` meets its contract. Assumes nothing.
+use Rattle.places.proofs.Reading.{{{n}-read}}
+use borrow.Author.Needs.{{needs}}
+use Rattle.places.proofs.{n}_at.Statement.{{statement}}
+use Rattle.places.proofs.{n}_at.Tie as tie
+
+pub {n}-at-spec : {{M : Type 1}} → statement M
+{n}-at-spec =
+    tie.close
+    (tie.spec
+{calls}    (λ c. search {n}-read))
 """)
