@@ -1,4 +1,4 @@
--- What each return of `reply`, `take`, `answer` and `submit` shows.
+-- What each return of `take`, `answer` and `submit` shows.
 use Prim.Native.Nat.{ℕ, zero, suc, _%_, _≤_}
 use mathlib.Core.Path.{_≡_, refl, ap, sym, _∙_}
 use mathlib.Core.Bool.{Bool, true, false, not, or-true, false≢true}
@@ -20,7 +20,7 @@ use Rattle.meaning.specs.declared.Answer.{Answer}
 use Rattle.meaning.specs.declared.Answer.the-variants.{Taken, Refused, Judged}
 use Rattle.meaning.proofs.Ranges.{reading-ranged, reading-fits}
 use Rattle.meaning.proofs.Names.{reading-csd, reading-names, reading-depository, names-depository}
-use Rattle.commands.specs.Asked.{asked, questionAsked, questionOn, whatOf, coded, letterFor}
+use Rattle.commands.specs.Asked.{askedBy, asked, questionAsked, questionOn, whatOf, coded, letterFor}
 use Rattle.commands.specs.declared.Question.{Question}
 use Rattle.commands.specs.declared.What.{What}
 use Rattle.commands.specs.declared.What.the-variants as What
@@ -40,16 +40,11 @@ use Rattle.line.proofs.LineCallers as Read
 use Rattle.precheck.specs.Promise.{answerIn, loneAfter, leftAsFound, Submitted}
 use Rattle.precheck.specs.Taking.{refusalOf, repliedTo, replyTo, answerOf, bytesAfter, Took, commandIn, answerRead, bytesRead, answerBy, bytesBy, Answers}
 
--- ---- the returns of reply and take
+-- ---- the returns of take
 
-pub replied-question : (b : List ℕ) (c : Command) (q : Question) (v : _) → c .what ≡ What.Ask q → v ≡ judgedBy b q
-    → Judged v ≡ replyTo b (c .what)
-unfolding replyTo
-replied-question b c q v e f = rw (e, f)
-
-pub replied-taken : (b : List ℕ) (w : What) → questionAsked w ≡ none → Taken ≡ replyTo b w
-unfolding replyTo
-replied-taken b w e = rw e
+question-asked : (c : Command) (q : Question) → c .what ≡ What.Ask q → isQuestion (asked c) ≡ true
+unfolding askedBy
+question-asked c q e = ap (λ x. isQuestion (askedBy (c .day) (c .row) x)) e
 
 module _ (b : List ℕ) (c : Command) where
   pub took-refusal : (n : ℕ) (x : Answer) → (n ≡ 0 → ⊥) → x ≡ Refused n → n ≡ refusal (loneBook (c .csd) b) (asked c)
@@ -59,13 +54,20 @@ module _ (b : List ℕ) (c : Command) where
       let r : eqb (refusal (loneBook (c .csd) b) (asked c)) 0 ≡ false = ap (λ k. eqb k 0) (sym h) ∙ ne-eqb n 0 f in
       record { answered = rw r (g ∙ ap Refused h); bytes = rw r }
 
-  pub took-edit : (b′ : List ℕ) (n : ℕ) (x : Answer) → n ≡ 0 → b′ ≡ editIn b (c .csd) (asked c)
-      → x ≡ replyTo b (c .what) → n ≡ refusal (loneBook (c .csd) b) (asked c)
-      → Took b c x b′
-  unfolding answerOf bytesAfter refusalOf
-  took-edit b′ n x f g h k =
-      let r : eqb (refusal (loneBook (c .csd) b) (asked c)) 0 ≡ true = eq-eqb _ 0 (sym k ∙ f) in
-      record { answered = rw r h; bytes = rw r g }
+  module _ (n : ℕ) (none-holds : n ≡ 0) (holds : n ≡ refusal (loneBook (c .csd) b) (asked c)) where
+    took : (b′ : List ℕ) (x : Answer) → x ≡ replyTo b (c .what) → b′ ≡ editIn b (c .csd) (asked c) → Took b c x b′
+    unfolding answerOf bytesAfter refusalOf
+    took b′ x h g =
+        let r : eqb (refusal (loneBook (c .csd) b) (asked c)) 0 ≡ true = eq-eqb _ 0 (sym holds ∙ none-holds) in
+        record { answered = rw r h; bytes = rw r g }
+
+    pub took-question : (q : Question) (v : _) → c .what ≡ What.Ask q → v ≡ judgedBy b q → Took b c (Judged v) b
+    unfolding replyTo
+    took-question q v e f = took b (Judged v) (rw (e, f)) (sym (question-left b (c .csd) (asked c) (question-asked c q e)))
+
+    pub took-edit : (b′ : List ℕ) → questionAsked (c .what) ≡ none → b′ ≡ editIn b (c .csd) (asked c) → Took b c Taken b′
+    unfolding replyTo
+    took-edit b′ e g = took b′ Taken (rw e) g
 
 -- ---- what is replied is the meaning's
 

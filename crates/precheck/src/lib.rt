@@ -4,7 +4,7 @@ ghost use mathlib.Core.Path.{_≡_};
 ghost use Rattle.book.specs.Emptied.{Emptied};
 ghost use Rattle.book.specs.Sound.{sound};
 ghost use Rattle.precheck.specs.Promise.{Submitted};
-ghost use Rattle.precheck.specs.Taking.{replyTo, Took, Answers};
+ghost use Rattle.precheck.specs.Taking.{Took, Answers};
 use commands::Command;
 use commands::What;
 use commands::command_of;
@@ -23,19 +23,8 @@ pub fn empty(book: &mut [u8]) -> u8
     book::empty(book)
 }
 
-// What a command that is not refused is answered over the book as it is: a question its verdict, any other K.
-fn reply(book: &[u8], c: Command) -> Answer
-    ensures { λ r. ⌜ r ≡ replyTo (now (book .entry)) (c .what) ⌝ }
-{
-    let what = c.what;
-    if let What::Ask(q) = what {
-        return Answer::Judged(judge(book, q));
-    }
-    Answer::Taken
-}
-
-// What a command does to a book: the first refusal that holds is the answer, and the book stays; else the reply, and
-// the edit, which for a question changes nothing.
+// What a command does to a book: the first refusal that holds is the answer, and the book stays; else a question gets
+// its verdict, of which nothing is stored, and any other command is stored and gets K.
 fn take(book: &mut [u8], c: Command) -> Answer
     ensures { λ r. ⌜ Took (now (book .entry)) c r (now (book .exit)) ⌝ }
 {
@@ -43,9 +32,12 @@ fn take(book: &mut [u8], c: Command) -> Answer
     if n != 0 {
         return Answer::Refused(n);
     }
-    let answer = reply(book, c);
+    let what = c.what;
+    if let What::Ask(q) = what {
+        return Answer::Judged(judge(book, q));
+    }
     edit(book, c);
-    answer
+    Answer::Taken
 }
 
 // The answer to a line over a lent book that was found to be sound, or not to be; an accepted edit is stored in it.

@@ -1,5 +1,6 @@
 -- `precheck::take` meets its contract. Assumes nothing.
-use Rattle.precheck.proofs.Submits.{took-refusal, took-edit}
+use Rattle.precheck.proofs.Submits.{took-refusal, took-question, took-edit}
+use Rattle.commands.proofs.Narrow.{not-asked}
 use borrow.Author.Needs.{needs}
 use Rattle.precheck.proofs.take.Statement.{statement}
 use Rattle.precheck.proofs.take.Tie as tie
@@ -11,7 +12,10 @@ take-spec =
     (λ c κs. search needs)
     (λ c. search needs)
     (λ c. search (took-refusal, c .if1 .taken))
-    (λ c κs. search needs)
+    (λ c. search needs)
     (λ c κs. search needs)
     (λ c. search needs)
-    (λ c. search took-edit))
+    (λ c. search took-question)
+    (λ c κs. search needs)
+    (λ c. search needs)
+    (λ c. search (took-edit, not-asked)))
