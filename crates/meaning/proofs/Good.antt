@@ -45,7 +45,7 @@ periodKind = record { quota = periodQuota; fits = periodFits; alike = clash; bac
 
 -- ---- the facts
 
-abbrev typeOf : Rule → TypeRecord → Bool
+abbrev pub typeOf : Rule → TypeRecord → Bool
 typeOf r = isType (r .type) (r .object)
 
 -- every rule has its type
@@ -69,7 +69,6 @@ pub record Good (b : Book) : Type 0 where
   pub lists : Lists b
   pub typesFit : every typeFits (b .types) ≡ true
   pub rulesFit : every ruleFits (b .rules) ≡ true
-  pub rowsFit : every rowFits (b .rows) ≡ true
   pub periodsFit : every periodFits (b .periods) ≡ true
   pub typeOnce : (type object : ℕ) → count (isType type object) (b .types) ≤ 1
   pub ruleOnce : (type object sequence : ℕ) → count (isRule type object sequence) (b .rules) ≤ 1
@@ -80,7 +79,6 @@ good-lists b l = record {
   lists = l;
   typesFit = l .types .fit;
   rulesFit = l .rules .fit;
-  rowsFit = l .rows .fit;
   periodsFit = l .periods .fit;
   typeOnce = λ n o. limit-all typeAsk typeKey type-hit 1 (b .types) (l .types .once) (n, o);
   ruleOnce = λ n o s. limit-all ruleAsk ruleKey rule-hit 1 (b .rules) (l .rules .once) (n, o, s);
@@ -92,13 +90,15 @@ good-lists b l = record {
 lists-of-sound : (b : Book) → soundLone b ≡ true → Lists b
 unfolding soundLone quotas goodType goodRule goodRow goodPeriod
 lists-of-sound b e =
+    let types : every (goodType b) (b .types) ≡ true = search ands in
     let rules : every (goodRule b) (b .rules) ≡ true = search ands in
     let rows : every (goodRow b) (b .rows) ≡ true = search ands in
+    let periods : every (goodPeriod b) (b .periods) ≡ true = search ands in
     record {
-      types = listed typeKind (goodType b) (b .types) (search ands) (search ands) (λ x h. search ands) (λ x h. search ands);
+      types = listed typeKind (goodType b) (b .types) (search ands) types (λ x h. search ands) (λ x h. search ands);
       rules = listed ruleKind (goodRule b) (b .rules) (search ands) rules (λ x h. search ands) (λ x h. search ands);
       rows = listed rowKind (goodRow b) (b .rows) (search ands) rows (λ x h. search ands) (λ x h. search ands);
-      periods = listed periodKind (goodPeriod b) (b .periods) (search ands) (search ands) (λ x h. search ands) (λ x h. search ands);
+      periods = listed periodKind (goodPeriod b) (b .periods) (search ands) periods (λ x h. search ands) (λ x h. search ands);
       typed = every-map (goodRule b) _ (b .rules) rules (λ x h. search ands);
       ruled = every-map (goodRow b) _ (b .rows) rows (λ x h. search ands);
     }
@@ -180,13 +180,14 @@ period-once b g κ n o f =
     cases (ltb 0 (count (isPeriod κ n o f) (b .periods)))
     (λ t.
     some-of (λ p. periodFits p && leb (count (clash p) (b .periods)) 1) (isPeriod κ n o f) (b .periods)
-    (every-both periodFits (λ p. leb (count (clash p) (b .periods)) 1) (b .periods) (g .periodsFit) (g .lists .periods .once))
+    (every-both _ _ (b .periods) (g .periodsFit) (g .lists .periods .once))
     (ltb-true 0 (count (isPeriod κ n o f) (b .periods)) t)
     (λ p h e.
     let q = both (periodFits p) (leb (count (clash p) (b .periods)) 1) h in
     omega (
       arith,
       leb-true (count (clash p) (b .periods)) 1 (q .1),
-      count-under periodFits (isPeriod κ n o f) (clash p) (b .periods) (g .periodsFit) (λ x y. same-clash κ n o f p x (q .0) y e),
+      count-under periodFits (isPeriod κ n o f) (clash p) (b .periods) (g .periodsFit)
+          (λ x y. same-clash κ n o f p x (q .0) y e),
     )))
     (λ t. omega (arith, ltb-false 0 (count (isPeriod κ n o f) (b .periods)) t))

@@ -29,12 +29,14 @@ unfolding conditions fits edited every
 lists-edited b g (addType d t) f e =
     let no = command-not-refused b (addType d t) refl e in
     type-added b g t f (no 8) (leb-false typeQuota (length (b .types)) (no 10))
-lists-edited b g (endType d n o last) f e = type-ended b g n o last f (command-not-refused b (endType d n o last) refl e 9)
+lists-edited b g (endType d n o last) f e =
+    type-ended b g n o last f (command-not-refused b (endType d n o last) refl e 9)
 lists-edited b g (addRule d r) f e =
     let no = command-not-refused b (addRule d r) refl e in
     rule-added b g r f (not-false (has (isType (r .type) (r .object)) (b .types)) (no 7)) (no 8)
     (leb-false ruleQuota (length (b .rules)) (no 10))
-lists-edited b g (reorder n o s new) f e = reordered n o s new b g f (command-not-refused b (reorder n o s new) refl e 8)
+lists-edited b g (reorder n o s new) f e =
+    reordered n o s new b g f (command-not-refused b (reorder n o s new) refl e 8)
 lists-edited b g (deleteRule n o s) f e = rule-deleted b g n o s (command-not-refused b (deleteRule n o s) refl e 9)
 lists-edited b g (addRow w) f e =
     let no = command-not-refused b (addRow w) refl e in

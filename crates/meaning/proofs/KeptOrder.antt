@@ -3,6 +3,7 @@
 use Prim.Native.Nat.{ℕ}
 use mathlib.Core.Path.{_≡_, refl, ap, sym, _∙_}
 use mathlib.Core.Bool.{true, false, false≢true}
+use mathlib.Core.List.{List}
 use Rattle.tables.specs.Count.{has, change}
 use Rattle.tables.proofs.Counts.{ands}
 use Rattle.tables.proofs.Lists.{has-true, some-of}
@@ -65,41 +66,49 @@ module _ (n o s new : ℕ) where
 
   -- ---- the lists
 
-  module _ (b : Book) (g : Lists b) (f : holds sequenceForm new ≡ true) (free : has (isRule n o new) (b .rules) ≡ false) where
-    rules-moved : Listed ruleKind (change (isRule n o s) (ruleMoved new) (b .rules))
-    rules-moved =
-        listed-changed (g .rules) (isRule n o s) (isRule n o new) (ruleMoved new) free (λ r z a. rule-moved f r)
-        (λ x y z a c h. absurd (false≢true (sym c ∙ rule-there x y z h)))
-        (λ x y z w a c h. rules-old x y z w)
+  abbrev pub movedRules : List Rule → List Rule
+  movedRules = change (isRule n o s) (ruleMoved new)
 
-    -- a row of the new key would have its rule there
-    no-rows : has (ofRule n o new) (b .rows) ≡ false
-    no-rows =
-        not-so (has (ofRule n o new) (b .rows)) (has (isRule n o new) (b .rules)) free
-        (λ h.
-        some-of (λ w. has (fillsRule w) (b .rules)) (ofRule n o new) (b .rows) (g .ruled) (has-true (ofRule n o new) (b .rows) h)
-        (λ w e t. has-map (fillsRule w) (isRule n o new) (b .rules) e (λ r. rule-of-row n o new w r t)))
+  abbrev pub movedRows : List Row → List Row
+  movedRows = change (ofRule n o s) (rowMoved new)
 
-    rows-moved : Listed rowKind (change (ofRule n o s) (rowMoved new) (b .rows))
-    rows-moved =
-        listed-changed (g .rows) (ofRule n o s) (ofRule n o new) (rowMoved new) no-rows (λ w z a. row-moved f w)
-        (λ x y z a c h. absurd (false≢true (sym c ∙ row-there x y z h)))
-        (λ x y z w a c h. rows-old x y z w h)
+  module _ (b : Book) (g : Lists b) (f : holds sequenceForm new ≡ true) (free : has (isRule n o new) (b .rules) ≡ false)
+    where
+      rules-moved : Listed ruleKind (movedRules (b .rules))
+      rules-moved =
+          listed-changed (g .rules) (isRule n o s) (isRule n o new) (ruleMoved new) free (λ r z a. rule-moved f r)
+          (λ x y z a c h. absurd (false≢true (sym c ∙ rule-there x y z h)))
+          (λ x y z w a c h. rules-old x y z w)
 
-    -- a row goes exactly if its rule does
-    ruled-moved : Ruled (change (isRule n o s) (ruleMoved new) (b .rules)) (change (ofRule n o s) (rowMoved new) (b .rows))
-    ruled-moved =
-        every-change (ofRule n o s) (rowMoved new) (λ w. has (fillsRule w) (b .rules)) _ (b .rows) (g .ruled)
-        (λ w z h.
-        has-change (isRule n o s) (ruleMoved new) (fillsRule w) (fillsRule (rowMoved new w)) (b .rules) h (λ r y t. fills-moved w r t)
-        (λ r y t. absurd (false≢true (sym y ∙ rule-of-row n o s w r z t))))
-        (λ w z h.
-        has-change (isRule n o s) (ruleMoved new) (fillsRule w) (fillsRule w) (b .rules) h
-        (λ r y t. absurd (false≢true (sym z ∙ row-of-rule n o s w r y t)))
-        (λ r y t. t))
+      -- a row of the new key would have its rule there
+      no-rows : has (ofRule n o new) (b .rows) ≡ false
+      no-rows =
+          not-so (has (ofRule n o new) (b .rows)) (has (isRule n o new) (b .rules)) free
+          (λ h.
+          some-of (λ w. has (fillsRule w) (b .rules)) (ofRule n o new) (b .rows) (g .ruled) (has-true _ (b .rows) h)
+          (λ w e t. has-map (fillsRule w) (isRule n o new) (b .rules) e (λ r. rule-of-row n o new w r t)))
 
-    pub reordered : Lists (withRows (change (ofRule n o s) (rowMoved new) (b .rows)) (withRules (change (isRule n o s) (ruleMoved new) (b .rules)) b))
-    reordered =
-        rules-rows-changed b g rules-moved rows-moved
-        (every-change (isRule n o s) (ruleMoved new) _ _ (b .rules) (g .typed) (λ r z h. h) (λ r z h. h))
-        ruled-moved
+      rows-moved : Listed rowKind (movedRows (b .rows))
+      rows-moved =
+          listed-changed (g .rows) (ofRule n o s) (ofRule n o new) (rowMoved new) no-rows (λ w z a. row-moved f w)
+          (λ x y z a c h. absurd (false≢true (sym c ∙ row-there x y z h)))
+          (λ x y z w a c h. rows-old x y z w h)
+
+      -- a row goes exactly if its rule does
+      ruled-moved : Ruled (movedRules (b .rules)) (movedRows (b .rows))
+      ruled-moved =
+          every-change (ofRule n o s) (rowMoved new) (λ w. has (fillsRule w) (b .rules)) _ (b .rows) (g .ruled)
+          (λ w z h.
+          has-change (isRule n o s) (ruleMoved new) (fillsRule w) (fillsRule (rowMoved new w)) (b .rules) h
+          (λ r y t. fills-moved w r t)
+          (λ r y t. absurd (false≢true (sym y ∙ rule-of-row n o s w r z t))))
+          (λ w z h.
+          has-change (isRule n o s) (ruleMoved new) (fillsRule w) (fillsRule w) (b .rules) h
+          (λ r y t. absurd (false≢true (sym z ∙ row-of-rule n o s w r y t)))
+          (λ r y t. t))
+
+      pub reordered : Lists (withRows (movedRows (b .rows)) (withRules (movedRules (b .rules)) b))
+      reordered =
+          rules-rows-changed b g rules-moved rows-moved
+          (every-change (isRule n o s) (ruleMoved new) _ _ (b .rules) (g .typed) (λ r z h. h) (λ r z h. h))
+          ruled-moved

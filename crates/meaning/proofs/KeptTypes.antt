@@ -16,7 +16,7 @@ use Rattle.meaning.specs.Refusals.{outside, typeOutside}
 use Rattle.meaning.specs.Edits.{typeUntil, withTypes}
 use Rattle.meaning.specs.Sound.{daysFit, keyFits, typeFits}
 use Rattle.meaning.proofs.Listed.{has-more, has-change, listed-added, listed-changed}
-use Rattle.meaning.proofs.Good.{Lists}
+use Rattle.meaning.proofs.Good.{typeOf, Lists}
 use Rattle.meaning.proofs.Changed.{types-changed}
 
 -- days with another last day
@@ -32,15 +32,16 @@ type-until : (n o last : ℕ) → holds day last ≡ true → (t : TypeRecord) �
 unfolding typeFits typeOutside
 type-until n o last f t z k h =
     let a : keyFits (t .type) (t .object) ≡ true = search ands in
-    let c : (holds processingForm (t .processing) && not (eqb (t .processing) 3 && eqb (t .object) 2)) ≡ true = search ands in
-    rw (a, c) (days-until (t .first) (t .last) last (search ands) f (rw z at k))
+    let p : holds processingForm (t .processing) ≡ true = search ands in
+    let c : not (eqb (t .processing) 3 && eqb (t .object) 2) ≡ true = search ands in
+    rw (a, p, c) (days-until (t .first) (t .last) last (search ands) f (rw z at k))
 
 module _ (b : Book) (g : Lists b) where
   pub type-added : (t : TypeRecord) → typeFits t ≡ true → has (isType (t .type) (t .object)) (b .types) ≡ false
       → length (b .types) < typeQuota → Lists (withTypes (t ∷ b .types) b)
   type-added t f n room =
       types-changed b g (listed-added (g .types) t f n room)
-      (every-map _ _ (b .rules) (g .typed) (λ r. has-more (isType (r .type) (r .object)) t (b .types)))
+      (every-map _ _ (b .rules) (g .typed) (λ r. has-more (typeOf r) t (b .types)))
 
   -- a type keeps its key
   pub type-ended : (n o last : ℕ) → holds day last ≡ true → has (typeOutside n o last) (b .types) ≡ false
@@ -51,6 +52,4 @@ module _ (b : Book) (g : Lists b) where
       (listed-changed (g .types) (isType n o) (typeOutside n o last) (typeUntil last) e (type-until n o last f)
       (λ x y z a c h. h) (λ x y z w a c h. h))
       (every-map _ _ (b .rules) (g .typed)
-      (λ r h.
-      has-change (isType n o) (typeUntil last) (isType (r .type) (r .object)) (isType (r .type) (r .object)) (b .types) h
-      (λ t z i. i) (λ t z i. i)))
+      (λ r h. has-change (isType n o) (typeUntil last) (typeOf r) (typeOf r) (b .types) h (λ t z i. i) (λ t z i. i)))

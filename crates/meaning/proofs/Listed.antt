@@ -39,10 +39,12 @@ module _ {R : Type 0} where
   unfolding without
   has-without p q l h f =
       true-has p (keep (λ x. not (q x)) l)
-      (omega (arith, has-true p l h, count-keep p (λ x. not (q x)) l, count-less p (λ x. not (q x) && p x) l (λ x e. rw (f x e, e))))
+      (rw (count-keep p (λ x. not (q x)) l)
+      (omega (arith, has-true p l h, count-less p (λ x. not (q x) && p x) l (λ x e. rw (f x e, e)))))
 
   -- where none of the list passes n
-  module _ (n p q : R → Bool) (l : List R) (none : has n l ≡ false) (f : (x : R) → n x ≡ false → p x ≡ true → q x ≡ true) where
+  module _ (n p q : R → Bool) (l : List R) (none : has n l ≡ false)
+      (f : (x : R) → n x ≡ false → p x ≡ true → q x ≡ true) where
     each-not : every (λ x. not (n x)) l ≡ true
     each-not = every-none n l (has-false n l none)
 
@@ -104,7 +106,8 @@ pub record Listed {R : Type 0} (k : Kind R) (l : List R) : Type 0 where
 module _ {R : Type 0} (k : Kind R) where
   -- as soundness says it: one test of each record
   pub listed : (p : R → Bool) (l : List R) → leb (length l) (k .quota) ≡ true → every p l ≡ true
-      → ((x : R) → p x ≡ true → k .fits x ≡ true) → ((x : R) → p x ≡ true → leb (count (k .alike x) l) 1 ≡ true) → Listed k l
+      → ((x : R) → p x ≡ true → k .fits x ≡ true) → ((x : R) → p x ≡ true → leb (count (k .alike x) l) 1 ≡ true)
+      → Listed k l
   listed p l few e fit once = record {
     few = leb-true (length l) (k .quota) few;
     fit = every-map p (k .fits) l e fit;
@@ -152,7 +155,8 @@ module _ {R : Type 0} {k : Kind R} {l : List R} (g : Listed k l) where
   module _ (q n : R → Bool) (h : R → R) (e : has n l ≡ false)
       (fit : (x : R) → q x ≡ true → n x ≡ false → k .fits x ≡ true → k .fits (h x) ≡ true)
       (one : (x y : R) → q x ≡ true → n x ≡ false → n y ≡ false → k .alike (h x) y ≡ true → k .alike x y ≡ true)
-      (two : (x y : R) → q x ≡ true → q y ≡ true → n x ≡ false → n y ≡ false → k .alike (h x) (h y) ≡ true → k .alike x y ≡ true) where
+      (two : (x y : R) → q x ≡ true → q y ≡ true → n x ≡ false → n y ≡ false → k .alike (h x) (h y) ≡ true
+      → k .alike x y ≡ true) where
     abbrev to : R → R
     to x = cond (q x) (h x) x
 
