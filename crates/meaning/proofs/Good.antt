@@ -45,12 +45,12 @@ periodKind = record { quota = periodQuota; fits = periodFits; alike = clash; bac
 
 -- ---- the facts
 
-abbrev pub typeOf : Rule → TypeRecord → Bool
-typeOf r = isType (r .type) (r .object)
+abbrev pub itsType : Rule → TypeRecord → Bool
+itsType r = isType (r .type) (r .object)
 
 -- every rule has its type
 abbrev pub Typed : List TypeRecord → List Rule → Type 0
-Typed ts rs = every (λ r. has (typeOf r) ts) rs ≡ true
+Typed ts rs = every (λ r. has (itsType r) ts) rs ≡ true
 
 -- every row has its rule with that rule's criteria filled
 abbrev pub Ruled : List Rule → List Row → Type 0
@@ -132,7 +132,7 @@ lists-same b c s l =
       rules = listed-same (l .rules) (c .rules) (s .rules);
       rows = listed-same (l .rows) (c .rows) (s .rows);
       periods = listed-same (l .periods) (c .periods) (s .periods);
-      typed = refer-same typeOf (b .types) (c .types) (b .rules) (c .rules) (s .types) (s .rules) (l .typed);
+      typed = refer-same itsType (b .types) (c .types) (b .rules) (c .rules) (s .types) (s .rules) (l .typed);
       ruled = refer-same fillsRule (b .rules) (c .rules) (b .rows) (c .rows) (s .rules) (s .rows) (l .ruled);
     }
 

@@ -16,7 +16,7 @@ use Rattle.meaning.specs.Refusals.{outside, typeOutside}
 use Rattle.meaning.specs.Edits.{typeUntil, withTypes}
 use Rattle.meaning.specs.Sound.{daysFit, keyFits, typeFits}
 use Rattle.meaning.proofs.Listed.{has-more, has-change, listed-added, listed-changed}
-use Rattle.meaning.proofs.Good.{typeOf, Lists}
+use Rattle.meaning.proofs.Good.{itsType, Lists}
 use Rattle.meaning.proofs.Changed.{types-changed}
 
 -- days with another last day
@@ -41,7 +41,7 @@ module _ (b : Book) (g : Lists b) where
       → length (b .types) < typeQuota → Lists (withTypes (t ∷ b .types) b)
   type-added t f n room =
       types-changed b g (listed-added (g .types) t f n room)
-      (every-map _ _ (b .rules) (g .typed) (λ r. has-more (typeOf r) t (b .types)))
+      (every-map _ _ (b .rules) (g .typed) (λ r. has-more (itsType r) t (b .types)))
 
   -- a type keeps its key
   pub type-ended : (n o last : ℕ) → holds day last ≡ true → has (typeOutside n o last) (b .types) ≡ false
@@ -52,4 +52,4 @@ module _ (b : Book) (g : Lists b) where
       (listed-changed (g .types) (isType n o) (typeOutside n o last) (typeUntil last) e (type-until n o last f)
       (λ x y z a c h. h) (λ x y z w a c h. h))
       (every-map _ _ (b .rules) (g .typed)
-      (λ r h. has-change (isType n o) (typeUntil last) (typeOf r) (typeOf r) (b .types) h (λ t z i. i) (λ t z i. i)))
+      (λ r h. has-change (isType n o) (typeUntil last) (itsType r) (itsType r) (b .types) h (λ t z i. i) (λ t z i. i)))
