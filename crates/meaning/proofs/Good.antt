@@ -69,6 +69,7 @@ pub record Good (b : Book) : Type 0 where
   pub lists : Lists b
   pub typesFit : every typeFits (b .types) ≡ true
   pub rulesFit : every ruleFits (b .rules) ≡ true
+  pub rowsFit : every rowFits (b .rows) ≡ true
   pub periodsFit : every periodFits (b .periods) ≡ true
   pub typeOnce : (type object : ℕ) → count (isType type object) (b .types) ≤ 1
   pub ruleOnce : (type object sequence : ℕ) → count (isRule type object sequence) (b .rules) ≤ 1
@@ -79,6 +80,7 @@ good-lists b l = record {
   lists = l;
   typesFit = l .types .fit;
   rulesFit = l .rules .fit;
+  rowsFit = l .rows .fit;
   periodsFit = l .periods .fit;
   typeOnce = λ n o. limit-all typeAsk typeKey type-hit 1 (b .types) (l .types .once) (n, o);
   ruleOnce = λ n o s. limit-all ruleAsk ruleKey rule-hit 1 (b .rules) (l .rules .once) (n, o, s);
