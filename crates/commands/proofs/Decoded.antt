@@ -5,7 +5,6 @@ use mathlib.Core.Path.{_≡_, refl, ap, _∙_}
 use mathlib.Core.Bool.{Bool, false, not, cond, _&&_, _||_, and-true}
 use mathlib.Core.List.{List, [], _∷_, map}
 use lib.Dec.{eqb, ltb}
-use lib.ListN.{replicate}
 use borrow.Author.Tests.{ne-eqb}
 use Rattle.tables.proofs.Counts.{cases}
 use Rattle.meaning.specs.Text.{bytes, same}
@@ -13,12 +12,11 @@ use Rattle.meaning.specs.Forms.{Letter, letterT, letterE, letterR, letterO, let
 use Rattle.meaning.specs.Records.{_!_, commandOf}
 use Rattle.meaning.specs.Refusals.{wrong}
 use Rattle.records.specs.Said.{typeOf, ruleOf, periodOf}
-use Rattle.places.specs.Layout.{zeroRow}
 use Rattle.places.specs.declared.RestrictionType.{RestrictionType}
 use Rattle.places.specs.declared.Rule.{Rule}
 use Rattle.places.specs.declared.Row.{Row}
 use Rattle.places.specs.declared.Period.{Period}
-use Rattle.commands.specs.Asked.{askedBy, asked, rowBeside, coded, orQuestion, letterFor, commandFrom}
+use Rattle.commands.specs.Asked.{askedBy, asked, rowOn, periodOn, whatOf, rowBeside, coded, commandOn, orQuestion, letterFor, commandFrom}
 use Rattle.commands.specs.declared.Question.{Question}
 use Rattle.commands.specs.declared.What.{What}
 use Rattle.commands.specs.declared.What.the-variants as What
@@ -26,82 +24,43 @@ use Rattle.commands.specs.declared.Command.{Command}
 
 -- ---- each letter
 
-module _ (v : List ℕ) (c : ℕ) (z : Row) where
-  pub made-T : (t : RestrictionType) (n o p : ℕ) → z ≡ zeroRow
+module _ (v : List ℕ) (c : ℕ) where
+  pub made-type : (t : RestrictionType) (n o p : ℕ)
       → t ≡ record { csd = c; number = n; object = o; processing = p; first = v ! 5; last = v ! 6 }
       → p ≡ v ! 4 % 256 → o ≡ v ! 3 % 256 → n ≡ v ! 2 % 256 → c ≡ v ! 0 % 256
-      → record { csd = c; day = v ! 1; what = What.AddType t; row = z } ≡ commandFrom letterT v
-  unfolding coded commandOf
-  made-T t n o p e f g h i j = rw (e, f, g, h, i, j)
+      → What.AddType t ≡ whatOf (v ! 0 % 256) (commandOf letterT v)
+  unfolding whatOf commandOf
+  made-type t n o p e f g h i = rw (e, f, g, h, i)
 
-  pub made-E : (n o : ℕ) → z ≡ zeroRow → o ≡ v ! 3 % 256 → n ≡ v ! 2 % 256 → c ≡ v ! 0 % 256
-      → record { csd = c; day = v ! 1; what = What.EndType n o (v ! 4); row = z } ≡ commandFrom letterE v
-  unfolding coded commandOf
-  made-E n o e f g h = rw (e, f, g, h)
-
-  pub made-R : (r : Rule) (n o s g : ℕ) → z ≡ zeroRow
+  pub made-rule : (r : Rule) (n o s g : ℕ)
       → r ≡ record { csd = c; number = n; object = o; sequence = s; sign = g; criteria = v ! 6; first = v ! 7; last = v ! 8 }
       → g ≡ v ! 5 % 256 → s ≡ v ! 4 % 256 → o ≡ v ! 3 % 256 → n ≡ v ! 2 % 256 → c ≡ v ! 0 % 256
-      → record { csd = c; day = v ! 1; what = What.AddRule r; row = z } ≡ commandFrom letterR v
-  unfolding coded commandOf
-  made-R r n o s g e f h i j k l = rw (e, f, h, i, j, k, l)
+      → What.AddRule r ≡ whatOf (v ! 0 % 256) (commandOf letterR v)
+  unfolding whatOf commandOf
+  made-rule r n o s g e f h i j k = rw (e, f, h, i, j, k)
 
-  pub made-O : (new : ℕ) → z ≡ rowBeside (v ! 0 % 256) (commandOf letterD v) → new ≡ v ! 5 % 256 → c ≡ v ! 0 % 256
-      → record { csd = c; day = v ! 1; what = What.Reorder new; row = z } ≡ commandFrom letterO v
-  unfolding coded commandOf
-  made-O new e f g = rw (e, f, g)
-
-  pub made-D : z ≡ rowBeside (v ! 0 % 256) (commandOf letterD v) → c ≡ v ! 0 % 256
-      → record { csd = c; day = v ! 1; what = What.DeleteRule; row = z } ≡ commandFrom letterD v
-  unfolding coded commandOf
-  made-D e f = rw (e, f)
-
-  pub made-M : z ≡ rowBeside (v ! 0 % 256) (commandOf letterM v) → c ≡ v ! 0 % 256
-      → record { csd = c; day = v ! 1; what = What.AddRow; row = z } ≡ commandFrom letterM v
-  unfolding coded commandOf
-  made-M e f = rw (e, f)
-
-  pub made-N : z ≡ rowBeside (v ! 0 % 256) (commandOf letterM v) → c ≡ v ! 0 % 256
-      → record { csd = c; day = v ! 1; what = What.DeleteRow; row = z } ≡ commandFrom letterN v
-  unfolding coded commandOf
-  made-N e f = rw (e, f)
-
-  pub made-A : (p : Period) (k : ℕ) → z ≡ zeroRow
+  pub made-period : (p : Period) (k : ℕ)
       → p ≡ record { csd = c; kind = k; number = v ! 3; code = v ! 4; first = v ! 5; last = v ! 6 }
-      → k ≡ v ! 2 % 256 → c ≡ v ! 0 % 256
-      → record { csd = c; day = v ! 1; what = What.AddPeriod p; row = z } ≡ commandFrom letterA v
-  unfolding coded commandOf
-  made-A p k e f g h = rw (e, f, g, h)
+      → k ≡ v ! 2 % 256 → c ≡ v ! 0 % 256 → p ≡ periodOn (v ! 0 % 256) (v ! 2) (v ! 3) (v ! 4) (v ! 5) (v ! 6)
+  made-period p k e f g = rw (e, f, g)
 
-  pub made-Z : (p : Period) (k : ℕ) → z ≡ zeroRow
-      → p ≡ record { csd = c; kind = k; number = v ! 3; code = v ! 4; first = v ! 5; last = v ! 6 }
-      → k ≡ v ! 2 % 256 → c ≡ v ! 0 % 256
-      → record { csd = c; day = v ! 1; what = What.EndPeriod p; row = z } ≡ commandFrom letterZ v
-  unfolding coded commandOf
-  made-Z p k e f g h = rw (e, f, g, h)
+  pub made-question : (o : ℕ) → o ≡ v ! 2 % 256 → c ≡ v ! 0 % 256
+      → What.Ask (record { csd = c; day = v ! 1; object = o; role = v ! 3; movement = v ! 4; payment = v ! 5; transaction = v ! 6; currency = v ! 7; party = v ! 8; account = v ! 9; security = v ! 10 })
+      ≡ whatOf (v ! 0 % 256) (commandOf letterQ v)
+  unfolding whatOf commandOf
+  made-question o e f = rw (e, f)
 
-  pub made-Q : (o : ℕ) → z ≡ zeroRow → o ≡ v ! 2 % 256 → c ≡ v ! 0 % 256
-      → record {
-        csd = c;
-        day = v ! 1;
-        what = What.Ask (record { csd = c; day = v ! 1; object = o; role = v ! 3; movement = v ! 4; payment = v ! 5; transaction = v ! 6; currency = v ! 7; party = v ! 8; account = v ! 9; security = v ! 10 });
-        row = z;
-      }
-      ≡ commandFrom letterQ v
-  unfolding coded commandOf
-  made-Q o e f g = rw (e, f, g)
+  -- with a row beside
+  module _ (x : What) (z : Row) where
+    pub made : (w : Row) → z ≡ w → c ≡ v ! 0 % 256
+        → record { csd = c; day = v ! 1; what = x; row = z } ≡ commandOn v x w
+    made w e f = rw (e, f)
 
--- the rows beside
-module _ (v : List ℕ) (c n o s : ℕ) (r : Row) where
-  pub made-key : r ≡ record { csd = c; number = n; object = o; sequence = s; values = replicate 10 0 }
-      → s ≡ v ! 4 % 256 → o ≡ v ! 3 % 256 → n ≡ v ! 2 % 256 → c ≡ v ! 0 % 256 → r ≡ rowBeside (v ! 0 % 256) (commandOf letterD v)
-  unfolding rowBeside commandOf
-  made-key e f g h i = e ∙ rw (f, g, h, i)
-
-  pub made-row : r ≡ record { csd = c; number = n; object = o; sequence = s; values = v ! 5 ∷ v ! 6 ∷ v ! 7 ∷ v ! 8 ∷ v ! 9 ∷ v ! 10 ∷ v ! 11 ∷ v ! 12 ∷ v ! 13 ∷ v ! 14 ∷ [] }
-      → s ≡ v ! 4 % 256 → o ≡ v ! 3 % 256 → n ≡ v ! 2 % 256 → c ≡ v ! 0 % 256 → r ≡ rowBeside (v ! 0 % 256) (commandOf letterM v)
-  unfolding rowBeside commandOf
-  made-row e f g h i = e ∙ rw (f, g, h, i)
+    pub made-row : (vs : List ℕ) (n o s : ℕ) → z ≡ record { csd = c; number = n; object = o; sequence = s; values = vs }
+        → s ≡ v ! 4 % 256 → o ≡ v ! 3 % 256 → n ≡ v ! 2 % 256 → c ≡ v ! 0 % 256
+        → record { csd = c; day = v ! 1; what = x; row = z }
+        ≡ commandOn v x (rowOn (v ! 0 % 256) (v ! 2) (v ! 3) (v ! 4) vs)
+    made-row vs n o s e f g h i = rw (e, f, g, h, i)
 
 -- ---- the match on the letter's byte
 
@@ -151,19 +110,25 @@ passed n [] l r = refl
 passed n (s ∷ ss) l r = passed n ss (s ∷ l) (r .0) ∙ rw (has-byte n s ∙ ne-eqb n (letterByte (s .letter)) (r .1))
 
 -- none of the bytes before Q's
-none-Q : (n : ℕ) → NoneOf (bytes "ZANMDORET") n → letterFor n ≡ letterQ
+pub none-Q : (n : ℕ) → NoneOf (bytes "ZANMDORET") n → letterFor n ≡ letterQ
 unfolding letterFor
 none-Q n r =
     ap orQuestion
     (passed n (shapeZ ∷ shapeA ∷ shapeN ∷ shapeM ∷ shapeD ∷ shapeO ∷ shapeR ∷ shapeE ∷ shapeT ∷ []) (shapeQ ∷ []) r)
     ∙ cases (hasLetter (n ∷ []) shapeQ) (λ e. rw e) (λ e. rw e)
 
-module _ (v : List ℕ) (n : ℕ) (x : Command) where
-  pub arm : (l : Letter) → x ≡ commandFrom l v → n ≡ letterByte l → x ≡ commandFrom (letterFor n) v
-  arm l e f = rw (f, letter-for l) e
+-- the command has what its letter asks, and the row beside
+module _ (l : Letter) (v : List ℕ) (n : ℕ) (x : Command) (w : What)
+    (e : x ≡ commandOn v w (rowBeside (v ! 0 % 256) (commandOf l v))) (f : w ≡ whatOf (v ! 0 % 256) (commandOf l v)) where
+  made-from : x ≡ commandFrom l v
+  unfolding coded
+  made-from = e ∙ ap (λ y. commandOn v y (rowBeside (v ! 0 % 256) (commandOf l v))) f
 
-  pub last-arm : NoneOf (bytes "ZANMDORET") n → x ≡ commandFrom letterQ v → x ≡ commandFrom (letterFor n) v
-  last-arm r f = rw (none-Q n r) f
+  pub arm : n ≡ letterByte l → x ≡ commandFrom (letterFor n) v
+  arm g = rw (g, letter-for l) made-from
+
+  pub last-arm : letterFor n ≡ l → x ≡ commandFrom (letterFor n) v
+  last-arm g = rw g made-from
 
 -- ---- refusal 5 of a command
 

@@ -11,7 +11,7 @@ use denote.Enum.Declared.{tagOf}
 use types.Run.{OneOf, miss}
 use Rattle.tables.proofs.Counts.{ands}
 use Rattle.meaning.specs.Fields.{within}
-use Rattle.meaning.specs.Forms.{holds, holdsAll, day, Letter, Shape, shapes, shapeT, shapeE, shapeR, shapeO, shapeD, shapeM, shapeN, shapeA, shapeZ, shapeQ}
+use Rattle.meaning.specs.Forms.{Form, holds, holdsAll, day, csdForm, typeForm, objectForm, sequenceForm, Letter, Shape, shapes, shapeT, shapeE, shapeR, shapeO, shapeD, shapeM, shapeN, shapeA, shapeZ, shapeQ}
 use Rattle.meaning.specs.Records as M
 use Rattle.meaning.specs.Records.{_!_, commandOf, questionIn}
 use Rattle.meaning.proofs.Shapes.{Ranged, by-rows}
@@ -134,72 +134,55 @@ narrow-read l v r =
     r
   where
     -- the number at a place, whose form is from 1 to m
-    byte : (s : Shape) (i m : ℕ) → holdsAll (s .forms) v ≡ true → i < length (s .forms)
-        → holds (getD (s .forms) i day) (v ! i) ≡ within 1 m (v ! i) → m < 256 → v ! i < 256
-    byte s i m e l f k = below m (v ! i) k (sym f ∙ holds-at (s .forms) v e i l)
+    byte : (φs : List Form) (i m : ℕ) → holdsAll φs v ≡ true → i < length φs
+        → holds (getD φs i day) (v ! i) ≡ within 1 m (v ! i) → m < 256 → v ! i < 256
+    byte φs i m e l f k = below m (v ! i) k (sym f ∙ holds-at φs v e i l)
+
+    -- the key of a rule, behind the csd and the day, whatever follows
+    key : (φs : List Form) → holdsAll (csdForm ∷ day ∷ typeForm ∷ objectForm ∷ sequenceForm ∷ φs) v ≡ true
+        → Key (v ! 2) (v ! 3) (v ! 4)
+    key φs e =
+        let all : List Form = csdForm ∷ day ∷ typeForm ∷ objectForm ∷ sequenceForm ∷ φs in (
+          byte all 2 99 e (omega arith) refl (omega arith),
+          byte all 3 2 e (omega arith) refl (omega arith),
+          byte all 4 99 e (omega arith) refl (omega arith),
+        )
 
     read-T : Read v shapeT
     read-T e = (
       refl,
-      byte shapeT 2 99 e (omega arith) refl (omega arith),
-      byte shapeT 3 2 e (omega arith) refl (omega arith),
-      byte shapeT 4 3 e (omega arith) refl (omega arith),
+      byte (shapeT .forms) 2 99 e (omega arith) refl (omega arith),
+      byte (shapeT .forms) 3 2 e (omega arith) refl (omega arith),
+      byte (shapeT .forms) 4 3 e (omega arith) refl (omega arith),
     )
 
     read-E : Read v shapeE
     read-E e = (
       refl,
-      byte shapeE 2 99 e (omega arith) refl (omega arith),
-      byte shapeE 3 2 e (omega arith) refl (omega arith),
+      byte (shapeE .forms) 2 99 e (omega arith) refl (omega arith),
+      byte (shapeE .forms) 3 2 e (omega arith) refl (omega arith),
     )
 
     read-R : Read v shapeR
-    read-R e = (
-      refl,
-      (
-        byte shapeR 2 99 e (omega arith) refl (omega arith),
-        byte shapeR 3 2 e (omega arith) refl (omega arith),
-        byte shapeR 4 99 e (omega arith) refl (omega arith),
-      ),
-      byte shapeR 5 2 e (omega arith) refl (omega arith),
-    )
+    read-R e = (refl, key _ e, byte (shapeR .forms) 5 2 e (omega arith) refl (omega arith))
 
     read-O : Read v shapeO
-    read-O e = (
-      (
-        byte shapeO 2 99 e (omega arith) refl (omega arith),
-        byte shapeO 3 2 e (omega arith) refl (omega arith),
-        byte shapeO 4 99 e (omega arith) refl (omega arith),
-      ),
-      byte shapeO 5 99 e (omega arith) refl (omega arith),
-    )
+    read-O e = (key _ e, byte (shapeO .forms) 5 99 e (omega arith) refl (omega arith))
 
     read-D : Read v shapeD
-    read-D e = (
-      byte shapeD 2 99 e (omega arith) refl (omega arith),
-      byte shapeD 3 2 e (omega arith) refl (omega arith),
-      byte shapeD 4 99 e (omega arith) refl (omega arith),
-    )
+    read-D e = key _ e
 
     read-M : Read v shapeM
-    read-M e = (
-      byte shapeM 2 99 e (omega arith) refl (omega arith),
-      byte shapeM 3 2 e (omega arith) refl (omega arith),
-      byte shapeM 4 99 e (omega arith) refl (omega arith),
-    )
+    read-M e = key _ e
 
     read-N : Read v shapeN
-    read-N e = (
-      byte shapeN 2 99 e (omega arith) refl (omega arith),
-      byte shapeN 3 2 e (omega arith) refl (omega arith),
-      byte shapeN 4 99 e (omega arith) refl (omega arith),
-    )
+    read-N e = key _ e
 
     read-A : Read v shapeA
-    read-A e = (refl, byte shapeA 2 3 e (omega arith) refl (omega arith))
+    read-A e = (refl, byte (shapeA .forms) 2 3 e (omega arith) refl (omega arith))
 
     read-Z : Read v shapeZ
-    read-Z e = (refl, byte shapeZ 2 3 e (omega arith) refl (omega arith))
+    read-Z e = (refl, byte (shapeZ .forms) 2 3 e (omega arith) refl (omega arith))
 
     read-Q : Read v shapeQ
-    read-Q e = byte shapeQ 2 2 e (omega arith) refl (omega arith)
+    read-Q e = byte (shapeQ .forms) 2 2 e (omega arith) refl (omega arith)

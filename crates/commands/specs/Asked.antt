@@ -147,6 +147,10 @@ unfoldable pub letterFor : ℕ → Letter
 unfolding firstShape shapes
 letterFor n = orQuestion (firstShape (hasLetter (n ∷ [])) shapes)
 
--- what a line of that letter asks, by the numbers of its fields: 0 the csd, 1 the day
+-- the command of a line by the numbers of its fields, 0 the csd and 1 the day: what it asks, and the row beside
+abbrev pub commandOn : List ℕ → What → Row → Command
+commandOn v x w = record { csd = v ! 0 % 256; day = v ! 1; what = x; row = w }
+
+-- what a line of that letter asks
 abbrev pub commandFrom : Letter → List ℕ → Command
 commandFrom l v = coded (v ! 0 % 256) (v ! 1) (commandOf l v)

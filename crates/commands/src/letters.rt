@@ -9,9 +9,11 @@ use places::Row;
 use places::Rule;
 ghost use mathlib.Core.Path.{_≡_};
 ghost use Prim.Native.Nat.{_%_};
-ghost use Rattle.meaning.specs.Forms.{letterT, letterE, letterR, letterO, letterD, letterM, letterN, letterA, letterZ, letterQ};
+ghost use Rattle.meaning.specs.Forms.{letterT, letterR, letterD, letterM, letterQ};
 ghost use Rattle.meaning.specs.Records.{_!_, commandOf};
-ghost use Rattle.commands.specs.Asked.{coded, rowBeside, commandFrom, letterFor};
+ghost use Rattle.places.specs.Layout.{zeroRow};
+ghost use Rattle.commands.specs.Asked.{periodOn, whatOf, coded, rowBeside, commandOn, letterFor};
+ghost use Rattle.commands.specs.declared.What.the-variants.{AddType, AddRule, Ask};
 
 const T: u8 = b'T';
 
@@ -31,36 +33,19 @@ const A: u8 = b'A';
 
 const Z: u8 = b'Z';
 
-fn add_type(v: [u32; 16]) -> Command
-    ensures { λ r. ⌜ r ≡ commandFrom letterT v ⌝ }
+// What T puts in.
+fn type_of(v: [u32; 16]) -> RestrictionType
+    ensures { λ r. ⌜ AddType r ≡ whatOf (v ! 0 % 256) (commandOf letterT v) ⌝ }
 {
-    let csd = low(v[0]);
-    let t = RestrictionType::new(csd, low(v[2]), low(v[3]), low(v[4]), v[5], v[6]);
-    Command {
-        csd,
-        day: v[1],
-        what: What::AddType(t),
-        row: Row::zero(),
-    }
+    RestrictionType::new(low(v[0]), low(v[2]), low(v[3]), low(v[4]), v[5], v[6])
 }
 
-fn end_type(v: [u32; 16]) -> Command
-    ensures { λ r. ⌜ r ≡ commandFrom letterE v ⌝ }
+// What R puts in.
+fn rule_of(v: [u32; 16]) -> Rule
+    ensures { λ r. ⌜ AddRule r ≡ whatOf (v ! 0 % 256) (commandOf letterR v) ⌝ }
 {
-    Command {
-        csd: low(v[0]),
-        day: v[1],
-        what: What::EndType(low(v[2]), low(v[3]), v[4]),
-        row: Row::zero(),
-    }
-}
-
-fn add_rule(v: [u32; 16]) -> Command
-    ensures { λ r. ⌜ r ≡ commandFrom letterR v ⌝ }
-{
-    let csd = low(v[0]);
-    let r = Rule::new(
-        csd,
+    Rule::new(
+        low(v[0]),
         low(v[2]),
         low(v[3]),
         low(v[4]),
@@ -68,48 +53,65 @@ fn add_rule(v: [u32; 16]) -> Command
         v[6],
         v[7],
         v[8],
-    );
-    Command {
-        csd,
+    )
+}
+
+// The period that A puts in and Z ends.
+fn period_of(v: [u32; 16]) -> Period
+    ensures { λ r. ⌜ r ≡ periodOn (v ! 0 % 256) (v ! 2) (v ! 3) (v ! 4) (v ! 5) (v ! 6) ⌝ }
+{
+    Period::new(low(v[0]), low(v[2]), v[3], v[4], v[5], v[6])
+}
+
+// What Q asks.
+fn question_of(v: [u32; 16]) -> Question
+    ensures { λ r. ⌜ Ask r ≡ whatOf (v ! 0 % 256) (commandOf letterQ v) ⌝ }
+{
+    Question {
+        csd: low(v[0]),
         day: v[1],
-        what: What::AddRule(r),
+        object: low(v[2]),
+        role: v[3],
+        movement: v[4],
+        payment: v[5],
+        transaction: v[6],
+        currency: v[7],
+        party: v[8],
+        account: v[9],
+        security: v[10],
+    }
+}
+
+// The command of a line without a row.
+fn plain(v: [u32; 16], what: What) -> Command
+    ensures { λ r. ⌜ r ≡ commandOn v what zeroRow ⌝ }
+{
+    Command {
+        csd: low(v[0]),
+        day: v[1],
+        what,
         row: Row::zero(),
     }
 }
 
-// The rule of an O or D line: the key of a row without values.
-fn key_of(v: [u32; 16]) -> Row
-    ensures { λ r. ⌜ r ≡ rowBeside (v ! 0 % 256) (commandOf letterD v) ⌝ }
+// With the rule of an O or D line: the key of a row without values.
+fn with_key(v: [u32; 16], what: What) -> Command
+    ensures { λ r. ⌜ r ≡ commandOn v what (rowBeside (v ! 0 % 256) (commandOf letterD v)) ⌝ }
 {
-    Row::new(low(v[0]), low(v[2]), low(v[3]), low(v[4]), [0; 10])
-}
-
-fn reorder(v: [u32; 16]) -> Command
-    ensures { λ r. ⌜ r ≡ commandFrom letterO v ⌝ }
-{
+    let csd = low(v[0]);
     Command {
-        csd: low(v[0]),
+        csd,
         day: v[1],
-        what: What::Reorder(low(v[5])),
-        row: key_of(v),
+        what,
+        row: Row::new(csd, low(v[2]), low(v[3]), low(v[4]), [0; 10]),
     }
 }
 
-fn delete_rule(v: [u32; 16]) -> Command
-    ensures { λ r. ⌜ r ≡ commandFrom letterD v ⌝ }
+// With the row of an M or N line.
+fn with_row(v: [u32; 16], what: What) -> Command
+    ensures { λ r. ⌜ r ≡ commandOn v what (rowBeside (v ! 0 % 256) (commandOf letterM v)) ⌝ }
 {
-    Command {
-        csd: low(v[0]),
-        day: v[1],
-        what: What::DeleteRule,
-        row: key_of(v),
-    }
-}
-
-// The row of an M or N line.
-fn row_of(v: [u32; 16]) -> Row
-    ensures { λ r. ⌜ r ≡ rowBeside (v ! 0 % 256) (commandOf letterM v) ⌝ }
-{
+    let csd = low(v[0]);
     let values = [
         v[5],
         v[6],
@@ -122,77 +124,11 @@ fn row_of(v: [u32; 16]) -> Row
         v[13],
         v[14],
     ];
-    Row::new(low(v[0]), low(v[2]), low(v[3]), low(v[4]), values)
-}
-
-fn add_row(v: [u32; 16]) -> Command
-    ensures { λ r. ⌜ r ≡ commandFrom letterM v ⌝ }
-{
-    Command {
-        csd: low(v[0]),
-        day: v[1],
-        what: What::AddRow,
-        row: row_of(v),
-    }
-}
-
-fn delete_row(v: [u32; 16]) -> Command
-    ensures { λ r. ⌜ r ≡ commandFrom letterN v ⌝ }
-{
-    Command {
-        csd: low(v[0]),
-        day: v[1],
-        what: What::DeleteRow,
-        row: row_of(v),
-    }
-}
-
-fn add_period(v: [u32; 16]) -> Command
-    ensures { λ r. ⌜ r ≡ commandFrom letterA v ⌝ }
-{
-    let csd = low(v[0]);
     Command {
         csd,
         day: v[1],
-        what: What::AddPeriod(Period::new(csd, low(v[2]), v[3], v[4], v[5], v[6])),
-        row: Row::zero(),
-    }
-}
-
-fn end_period(v: [u32; 16]) -> Command
-    ensures { λ r. ⌜ r ≡ commandFrom letterZ v ⌝ }
-{
-    let csd = low(v[0]);
-    Command {
-        csd,
-        day: v[1],
-        what: What::EndPeriod(Period::new(csd, low(v[2]), v[3], v[4], v[5], v[6])),
-        row: Row::zero(),
-    }
-}
-
-fn question(v: [u32; 16]) -> Command
-    ensures { λ r. ⌜ r ≡ commandFrom letterQ v ⌝ }
-{
-    let csd = low(v[0]);
-    let q = Question {
-        csd,
-        day: v[1],
-        object: low(v[2]),
-        role: v[3],
-        movement: v[4],
-        payment: v[5],
-        transaction: v[6],
-        currency: v[7],
-        party: v[8],
-        account: v[9],
-        security: v[10],
-    };
-    Command {
-        csd,
-        day: v[1],
-        what: What::Ask(q),
-        row: Row::zero(),
+        what,
+        row: Row::new(csd, low(v[2]), low(v[3]), low(v[4]), values),
     }
 }
 
@@ -201,15 +137,15 @@ pub fn command_of(letter: u8, v: [u32; 16]) -> Command
     ensures { λ r. ⌜ r ≡ coded (v ! 0 % 256) (v ! 1) (commandOf (letterFor letter) v) ⌝ }
 {
     match letter {
-        T => add_type(v),
-        E => end_type(v),
-        R => add_rule(v),
-        O => reorder(v),
-        D => delete_rule(v),
-        M => add_row(v),
-        N => delete_row(v),
-        A => add_period(v),
-        Z => end_period(v),
-        _ => question(v),
+        T => plain(v, What::AddType(type_of(v))),
+        E => plain(v, What::EndType(low(v[2]), low(v[3]), v[4])),
+        R => plain(v, What::AddRule(rule_of(v))),
+        O => with_key(v, What::Reorder(low(v[5]))),
+        D => with_key(v, What::DeleteRule),
+        M => with_row(v, What::AddRow),
+        N => with_row(v, What::DeleteRow),
+        A => plain(v, What::AddPeriod(period_of(v))),
+        Z => plain(v, What::EndPeriod(period_of(v))),
+        _ => plain(v, What::Ask(question_of(v))),
     }
 }

@@ -6,7 +6,14 @@ pub mod Shapes
 pub mod Ranges
 pub mod First
 pub mod SameLists
+pub mod Listed
+pub mod Keys
 pub mod Good
+pub mod Changed
+pub mod KeptTypes
+pub mod KeptRules
+pub mod KeptOrder
+pub mod KeptPeriods
 pub mod Kept
 pub mod Names
 pub mod Numerals

@@ -62,50 +62,25 @@ module _ (b c : Book) (s : SameBook b c) where
   unfolding refusal
   refusal-same k = ap firstOf (conditions-same k)
 
+  -- the lists that the edit leaves are the same by what is given
   pub edited-same : (k : Command) → SameBook (edited b k) (edited c k)
   unfolding edited
-  edited-same (addType day t) =
-      record { types = same-cons t (b .types) (c .types) (s .types); rules = s .rules; rows = s .rows; periods = s .periods }
-  edited-same (endType day type object last) = record {
-    types = same-change (isType type object) (typeUntil last) (b .types) (c .types) (s .types);
-    rules = s .rules;
-    rows = s .rows;
-    periods = s .periods;
-  }
-  edited-same (addRule day r) =
-      record { types = s .types; rules = same-cons r (b .rules) (c .rules) (s .rules); rows = s .rows; periods = s .periods }
-  edited-same (reorder type object sequence new) = record {
-    types = s .types;
-    rules = same-change (isRule type object sequence) (ruleMoved new) (b .rules) (c .rules) (s .rules);
-    rows = same-change (ofRule type object sequence) (rowMoved new) (b .rows) (c .rows) (s .rows);
-    periods = s .periods;
-  }
-  edited-same (deleteRule type object sequence) = record {
-    types = s .types;
-    rules = same-without (isRule type object sequence) (b .rules) (c .rules) (s .rules);
-    rows = s .rows;
-    periods = s .periods;
-  }
-  edited-same (addRow w) =
-      record { types = s .types; rules = s .rules; rows = same-cons w (b .rows) (c .rows) (s .rows); periods = s .periods }
-  edited-same (deleteRow w) = record {
-    types = s .types;
-    rules = s .rules;
-    rows = same-without (isRow w) (b .rows) (c .rows) (s .rows);
-    periods = s .periods;
-  }
-  edited-same (addPeriod day p) = record {
-    types = s .types;
-    rules = s .rules;
-    rows = s .rows;
-    periods = same-cons p (b .periods) (c .periods) (s .periods);
-  }
-  edited-same (endPeriod day kind number code first last) = record {
-    types = s .types;
-    rules = s .rules;
-    rows = s .rows;
-    periods = same-change (isPeriod kind number code first) (periodUntil last) (b .periods) (c .periods) (s .periods);
-  }
+  edited-same (addType day t) = search (same-cons t (b .types) (c .types) (s .types))
+  edited-same (endType day type object last) =
+      search (same-change (isType type object) (typeUntil last) (b .types) (c .types) (s .types))
+  edited-same (addRule day r) = search (same-cons r (b .rules) (c .rules) (s .rules))
+  edited-same (reorder type object sequence new) =
+      search (
+        same-change (isRule type object sequence) (ruleMoved new) (b .rules) (c .rules) (s .rules),
+        same-change (ofRule type object sequence) (rowMoved new) (b .rows) (c .rows) (s .rows),
+      )
+  edited-same (deleteRule type object sequence) =
+      search (same-without (isRule type object sequence) (b .rules) (c .rules) (s .rules))
+  edited-same (addRow w) = search (same-cons w (b .rows) (c .rows) (s .rows))
+  edited-same (deleteRow w) = search (same-without (isRow w) (b .rows) (c .rows) (s .rows))
+  edited-same (addPeriod day p) = search (same-cons p (b .periods) (c .periods) (s .periods))
+  edited-same (endPeriod day kind number code first last) =
+      search (same-change (isPeriod kind number code first) (periodUntil last) (b .periods) (c .periods) (s .periods))
   edited-same (ask q) = s
 
   -- ---- judging

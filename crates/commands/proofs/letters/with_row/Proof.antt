@@ -1,25 +1,29 @@
--- `commands::letters::row_of` meets its contract. Assumes nothing.
+-- `commands::letters::with_row` meets its contract. Assumes nothing.
+use Rattle.meaning.specs.Records.{commandOf}
+use Rattle.commands.specs.Asked.{rowBeside}
 use Rattle.commands.proofs.Decoded.{made-row}
 use borrow.Author.Needs.{needs}
-use Rattle.commands.proofs.letters.row_of.Statement.{statement}
-use Rattle.commands.proofs.letters.row_of.Tie as tie
+use Rattle.commands.proofs.letters.with_row.Statement.{statement}
+use Rattle.commands.proofs.letters.with_row.Tie as tie
 
-pub row-of-spec : {M : Type 1} → statement M
-row-of-spec =
+pub with-row-spec : {M : Type 1} → statement M
+unfolding rowBeside commandOf
+with-row-spec =
     tie.close
     (tie.spec
     (λ c. search needs)
-    (λ c. search needs)
-    (λ c. search needs)
-    (λ c. search needs)
-    (λ c. search needs)
-    (λ c. search needs)
-    (λ c. search needs)
-    (λ c. search needs)
-    (λ c. search needs)
-    (λ c. search needs)
-    (λ c. search needs)
     (λ c κs. search needs)
+    (λ c. search needs)
+    (λ c. search needs)
+    (λ c. search needs)
+    (λ c. search needs)
+    (λ c. search needs)
+    (λ c. search needs)
+    (λ c. search needs)
+    (λ c. search needs)
+    (λ c. search needs)
+    (λ c. search needs)
+    (λ c. search needs)
     (λ c. search needs)
     (λ c κs. search needs)
     (λ c. search needs)
