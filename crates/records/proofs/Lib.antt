@@ -5,3 +5,4 @@ pub mod Filled
 pub mod Meets
 pub mod Nobody
 pub mod Holds
+pub mod Tables

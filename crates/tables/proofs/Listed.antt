@@ -59,10 +59,10 @@ module _ {P R : Type 0} (t : Table P R) (f : Lies t) where
           (λ q. e (sym (ap (t .csd) stands) ∙ q))
 
       -- a record more, at a free place
-      pub list-added : (t .csd (t .at b i) ≡ t .csd r → ⊥)
-          → Same (listOf t (t .csd r) (t .put b i r)) (t .rec r ∷ listOf t (t .csd r) b)
-      list-added d p =
-          rw stands at (lone-added (t .csd) (t .rec) (t .csd r) (t .at b) (t .at (t .put b i r)) i (t .places) place (λ k l. other t f b i r k) d (ap (t .csd) stands) p)
+      pub list-added : (c : ℕ) → t .csd r ≡ c → (t .csd (t .at b i) ≡ c → ⊥)
+          → Same (listOf t c (t .put b i r)) (t .rec r ∷ listOf t c b)
+      list-added c o d p =
+          rw stands at (lone-added (t .csd) (t .rec) c (t .at b) (t .at (t .put b i r)) i (t .places) place (λ k l. other t f b i r k) d (ap (t .csd) stands ∙ o) p)
 
     -- the one record of c's that passes the test q
     module _ (inside : end t ≤ length b) (c : ℕ) (q : R → Bool) (own : t .csd (t .at b i) ≡ c) (hit : q (t .rec (t .at b i)) ≡ true) (once : count q (listOf t c b) ≤ 1) where
@@ -83,17 +83,17 @@ module _ {P R : Type 0} (t : Table P R) (f : Lies t) where
           lone-changed (t .csd) (t .rec) c q (t .at b) i (t .places) place own hit once (t .at (t .put b i r)) (λ k l. other t f b i r k) g
           (ap (t .csd) e ∙ o) (ap (t .rec) e ∙ x) (t .places) (omega arith)
 
-  -- ---- the place found: one of a record as asked, and a free one where quotas leave room
+-- ---- the place found: one of a record as asked, and a free one where quotas leave room
 
-  module _ (b : List ℕ) where
-    pub found : (a : ℕ) (p : R → Bool) → 0 < count p (listOf t a b)
-        → (placeOf t b a p < t .places) × (t .csd (t .at b (placeOf t b a p)) ≡ a) × (p (t .rec (t .at b (placeOf t b a p))) ≡ true)
-    found a p = F.found (t .csd) (t .rec) (t .at b) (t .places) a p
+module _ {P R : Type 0} (t : Table P R) (b : List ℕ) where
+  pub found : (a : ℕ) (p : R → Bool) → 0 < count p (listOf t a b)
+      → (placeOf t b a p < t .places) × (t .csd (t .at b (placeOf t b a p)) ≡ a) × (p (t .rec (t .at b (placeOf t b a p))) ≡ true)
+  found a p = F.found (t .csd) (t .rec) (t .at b) (t .places) a p
 
-    pub found-free : (p : R → Bool) → ((x : R) → p x ≡ true) → (m : ℕ) → m * t .quota ≤ t .places
-        → ((c : ℕ) → 1 ≤ c → c ≤ m → length (listOf t c b) ≤ t .quota)
-        → ((k : ℕ) → k < t .places → (t .csd (t .at b k) ≡ 0 → ⊥) → (1 ≤ t .csd (t .at b k)) × (t .csd (t .at b k) ≤ m))
-        → (c : ℕ) → 1 ≤ c → c ≤ m → length (listOf t c b) < t .quota
-        → (placeOf t b 0 p < t .places) × (t .csd (t .at b (placeOf t b 0 p)) ≡ 0)
-    found-free p any m fit few owner c low high room =
-        F.found-free (t .csd) (t .rec) (t .at b) (t .places) m (t .quota) p any few c low high room fit owner
+  pub found-free : (p : R → Bool) → ((x : R) → p x ≡ true) → (m : ℕ) → m * t .quota ≤ t .places
+      → ((c : ℕ) → 1 ≤ c → c ≤ m → length (listOf t c b) ≤ t .quota)
+      → ((k : ℕ) → k < t .places → (t .csd (t .at b k) ≡ 0 → ⊥) → (1 ≤ t .csd (t .at b k)) × (t .csd (t .at b k) ≤ m))
+      → (c : ℕ) → 1 ≤ c → c ≤ m → length (listOf t c b) < t .quota
+      → (placeOf t b 0 p < t .places) × (t .csd (t .at b (placeOf t b 0 p)) ≡ 0)
+  found-free p any m fit few owner c low high room =
+      F.found-free (t .csd) (t .rec) (t .at b) (t .places) m (t .quota) p any few c low high room fit owner

@@ -2,10 +2,10 @@
 -- what it says. P is the struct of a place, R the written meaning's record. Assumes nothing.
 use Prim.Native.Nat.{ℕ, zero, suc, _+_, _*_, _≤_}
 use mathlib.Core.Path.{_≡_}
-use mathlib.Core.Bool.{Bool, true, _&&_}
+use mathlib.Core.Bool.{Bool, true, _&&_, cond}
 use mathlib.Core.List.{List, [], _∷_}
 use mathlib.Core.Logic.{_⊎_}
-use lib.Dec.{eqb}
+use lib.Dec.{eqb, ltb}
 use lib.ListN.{length, replicate}
 use Rattle.tables.specs.Bytes.{Width, numbers, bytesOf, total, Hold, puts}
 use Rattle.tables.specs.Count.{findBelow, lone}
@@ -42,6 +42,10 @@ module _ {P R : Type 0} (t : Table P R) where
   -- what stands at a free place
   abbrev pub vacant : P
   vacant = t .from (replicate (length (t .widths)) 0)
+
+  -- a record stored, and nothing where there is no such place
+  abbrev pub store : List ℕ → ℕ → P → List ℕ
+  store b i r = cond (ltb i (t .places)) (t .put b i r) b
 
   -- what the places say that are depository a's
   abbrev pub listOf : ℕ → List ℕ → List R
