@@ -1,16 +1,15 @@
 #!/usr/bin/env python3
-"""Writes what the gate runs the desk on: crates/desk/stdin, args, data/ and stdout. Standard input is the paper's example; each file of data/ is answered over a book emptied for it.
-The vectors' answers are an independent program's; those of edges.in are worked out from document 01, line by line below; lesson.in is docs/LESSON.md's.
-Usage: desk_vectors.py DIR (the folder of the vectors; in the repository's root)"""
-import os
-import sys
+"""Writes what the gate runs the desk on: crates/desk/stdin, args, data/ and stdout. Standard input is the paper's
+example; each file of data/ is answered over a book emptied for it. The answers of vectors/ are an independent
+program's; those of edges.in are worked out from document 01, line by line below; lesson.in is docs/LESSON.md's."""
+from output import plain
 
 DESK = "crates/desk"
 NAMES = ["marked", "mixed-1", "full-quotas"]
 
 
 def vector(name, kind):
-    return open(f"{sys.argv[1]}/{name}.{kind}", "rb").read()
+    return open(f"vectors/{name}.{kind}", "rb").read()
 
 
 def edges():
@@ -37,11 +36,9 @@ def edges():
 
 
 def write(name, text):
-    with open(f"{DESK}/{name}", "wb") as f:
-        f.write(text)
+    plain(f"{DESK}/{name}", text)
 
 
-os.makedirs(f"{DESK}/data", exist_ok=True)
 lines = list(edges())
 write("data/edges.in", b"\n".join(line for line, _ in lines))
 write("data/none.in", b"")

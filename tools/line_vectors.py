@@ -1,18 +1,16 @@
 #!/usr/bin/env python3
 """Writes what the program line_main reads and must write: crates/line_main/stdin and stdout.
 
-Usage: line_vectors.py VECTORS   (in the repository's root; VECTORS has NAME.in and NAME.out)
-A line of NAME.in has the refusal of NAME.out if that is F,2 to F,5; any other answer means that it is read, 0.
+A line of vectors/NAME.in has the refusal of NAME.out if that is F,2 to F,5; any other answer means that it is read, 0.
 Of each first byte and each refusal the first EACH lines are taken, then the lines below.
 The program writes a refused line's refusal, and the letter of a line that is read. read_line does not give refusal 5
 where each field is of its form and only the fields together are wrong: such a line is read.
 """
 import datetime
-import sys
+from output import plain
 
 EACH = 8
 LETTERS = b"TERODMNAZQ"
-vectors = sys.argv[1]
 
 
 # ---- document 01's forms of a field
@@ -81,8 +79,8 @@ def shown(line, refusal):
 # ---- the lines
 
 def lines(name):
-    text = open(f"{vectors}/{name}.in", "rb").read().split(b"\n")
-    answers = open(f"{vectors}/{name}.out", "rb").read().split(b"\n")
+    text = open(f"vectors/{name}.in", "rb").read().split(b"\n")
+    answers = open(f"vectors/{name}.out", "rb").read().split(b"\n")
     assert len(text) == len(answers)
     for line, answer in zip(text[:-1], answers[:-1]):
         yield line, int(answer[2:]) if answer in (b"F,2", b"F,3", b"F,4", b"F,5") else 0
@@ -131,7 +129,6 @@ taken += list(lines("paper-example")) + BY_HAND
 for refusal in (0, 2, 3, 4, 5):
     assert any(r == refusal for _, r in taken)
 # a final byte 10 is followed by no line, so the last line goes without
-open("crates/line_main/stdin", "wb").write(b"\n".join(l for l, _ in taken))
+plain("crates/line_main/stdin", b"\n".join(l for l, _ in taken))
 out = [shown(l, r) for l, r in taken] + PRINTED
-open("crates/line_main/stdout", "wb").write(b"\n".join(out) + b"\n")
-print(len(taken), "lines;", {r: sum(x == r for _, x in taken) for r in (0, 2, 3, 4, 5)}, len(b"\n".join(l for l, _ in taken)), "bytes")
+plain("crates/line_main/stdout", b"\n".join(out) + b"\n")

@@ -1,70 +1,29 @@
 #!/usr/bin/env python3
 """Writes what differs between the tables only in sizes and names: the structs and reading (crates/places), storing
-(crates/stores). Usage: places.py (in the repository's root), then rt fmt. The one place where the layout is written;
-docs/LAYOUT.md says it in words."""
-import os
-from wrap import wrap
+(crates/stores). The tables are described in tools/tables.py."""
+from output import noted
+from tables import SIZE, TABLES
 
-# struct, name, places, quota, fields: name and bytes; values: bytes of each of an array's numbers
-TABLES = [
-    ("RestrictionType", "type", 128, 16,
-     [("csd", 1), ("number", 1), ("object", 1), ("processing", 1), ("first", 4), ("last", 4)]),
-    ("Rule", "rule", 512, 64,
-     [("csd", 1), ("number", 1), ("object", 1), ("sequence", 1), ("sign", 1), ("criteria", 2), ("first", 4), ("last", 4)]),
-    ("Row", "row", 1024, 128,
-     [("csd", 1), ("number", 1), ("object", 1), ("sequence", 1), ("values", [1, 1, 1, 4, 3, 3, 2, 2, 2, 3])]),
-    ("Period", "period", 1024, 128,
-     [("csd", 1), ("kind", 1), ("number", 3), ("code", 2), ("first", 4), ("last", 4)]),
-]
-WHAT = {
-    "RestrictionType": "A restriction type of a depository: what becomes of an object that its rules match.",
-    "Rule": "A rule of a type, with the criteria that its rows fill.",
-    "Row": "A row of a rule: its ten values, 0 where empty.",
-    "Period": "An attribute period: the days on which a party, an account or a security has a code.",
-}
-# numbers that a field may hold, by name, as document 01 names them
-NAMED = {
-    "RestrictionType": [("INSTRUCTION", 1), ("RESTRICTION", 2),
-                        ("REJECTION", 1), ("VALIDATION_HOLD", 2), ("PARTY_HOLD", 3)],
-    "Rule": [("POSITIVE", 1), ("NEGATIVE", 2)],
-    "Row": [],
-    "Period": [("PARTY", 1), ("ACCOUNT", 2), ("SECURITY", 3)],
-}
-SAID = {"RestrictionType": "Objects, then processings.", "Rule": "Signs.", "Period": "Kinds."}
 W = {1: "one", 2: "two", 3: "three", 4: "four"}
 C = "crates/places"
 S = "crates/stores"
 
 def write(path, text):
-    os.makedirs(os.path.dirname(path), exist_ok=True)
-    open(path, "w").write(wrap(text))
+    noted("places", path, text)
 
-def flat(fields):
-    """each number: the field, its place in an array or none, its bytes, its offset"""
-    out, j = [], 0
-    for f, w in fields:
-        for k, x in enumerate(w) if isinstance(w, list) else [(None, w)]:
-            out.append((f, k, x, j))
-            j += x
-    return out, j
-
-start, layout = 0, []
-for s, n, places, quota, fields in TABLES:
-    nums, size = flat(fields)
-    layout.append((s, n, places, quota, fields, nums, size, start))
-    start += places * size
+layout = [(t.struct, t.name, t.places, t.quota, t.fields, t.numbers, t.width, t.start) for t in TABLES]
 
 # ---- the code
 code = open("tools/places.head.txt").read()
-code = code.replace("BYTES", str(start)).replace("{LAYOUT}", "{%s}" % ", ".join(f"{n}At, zero{n.capitalize()}" for _, n, *_ in layout))
+code = code.replace("BYTES", str(SIZE)).replace("{LAYOUT}", "{%s}" % ", ".join(f"{n}At, zero{n.capitalize()}" for _, n, *_ in layout))
 store = open("tools/stores.head.txt").read()
 store = store.replace("LAYOUT", ", ".join(f"put{n.capitalize()}" for _, n, *_ in layout))
 store = store.replace("USES", "".join(f"use places::{s};\n" for s in sorted(s for s, *_ in layout)))
-for s, n, places, quota, fields, nums, size, at0 in layout:
+for t, (s, n, places, quota, fields, nums, size, at0) in zip(TABLES, layout):
     addr = f"address({s}::START, {s}::WIDTH, i)"
-    named = "".join(f"    pub const {c}: u8 = {k};\n" for c, k in NAMED[s])
-    named = f"\n    // {SAID[s]}\n{named}" if named else ""
-    code += f"\n// {WHAT[s]}\npub struct {s} {{\n"
+    named = "".join(f"    pub const {c}: u8 = {k};\n" for c, k in t.named)
+    named = f"\n    // {t.said}\n{named}" if named else ""
+    code += f"\n// {t.about}\npub struct {s} {{\n"
     for f, w in fields:
         code += f"    pub {f}: " + ("[u32; 10]" if isinstance(w, list) else "u8" if w == 1 else "u32") + ",\n"
     code += f"}}\n\nimpl {s} {{\n    pub const QUOTA: u16 = {quota};\n    pub const PLACES: u16 = {places};\n\n    // The address of the first place, and the bytes of each.\n    pub const START: u16 = {at0};\n    pub const WIDTH: u8 = {size};\n{named}\n    // What stands at a free place.\n    pub fn zero() -> {s}\n        ensures {{ λ r. ⌜ r ≡ zero{n.capitalize()} ⌝ }}\n    {{\n        {s} {{\n"
@@ -113,7 +72,6 @@ write(f"{S}/src/lib.rt", store)
 
 # ---- the definitions
 spec = """-- The book's four tables: where each place starts, the numbers that stand there, and the record that they are.
--- Written by tools/places.py.
 use Prim.Native.Nat.{ℕ, _+_, _*_}
 use mathlib.Core.List.{List, [], _∷_}
 use lib.ListN.{getD, drop, replicate}
@@ -121,7 +79,7 @@ use Rattle.tables.specs.Bytes.{Width, one, two, three, four, numbers, bytesOf, 
 """
 for s, *_ in layout:
     spec += f"use Rattle.places.specs.declared.{s}.{{{s}}}\n"
-spec += f"\n-- the book's size\nabbrev pub bookSize : ℕ\nbookSize = {start}\n"
+spec += f"\n-- the book's size\nabbrev pub bookSize : ℕ\nbookSize = {SIZE}\n"
 for s, n, places, quota, fields, nums, size, at0 in layout:
     N = n.capitalize()
     spec += f"\n-- ---- {places} places of {size} bytes, from {at0}\n"
@@ -137,10 +95,9 @@ for s, n, places, quota, fields, nums, size, at0 in layout:
     spec += f"\nunfoldable pub put{N} : List ℕ → ℕ → {s} → List ℕ\nput{N} b i r = puts b ({n}Start i) 0 (bytesOf {n}Widths ({n}Numbers r))\n"
     spec += f"\nabbrev pub zero{N} : {s}\nzero{N} = record {{ " + "; ".join(f"{f} = replicate {len(w)} 0" if isinstance(w, list) else f"{f} = 0" for f, w in fields) + " }\n"
 write(f"{C}/specs/Layout.antt", spec)
-write(f"{C}/specs/Lib.antt", "pub mod Layout\n")
 
 # ---- reading: what the calls return is the record. A law over plain values, so that a wrong reading is refused for certain
-law = """-- What the calls of a reading return, taken together, is the record. Written by tools/places.py.
+law = """-- What the calls of a reading return, taken together, is the record.
 use Prim.Native.Nat.{ℕ}
 use mathlib.Core.Path.{_≡_}
 use mathlib.Core.List.{List, [], _∷_}
@@ -161,7 +118,6 @@ write(f"{C}/proofs/Reading.antt", law)
 
 # ---- storing: one store after the other stores the record
 law = """-- Stores one after the other, as the functions make them. The premises stand last store first: then each says which list the next is about.
--- Written by tools/places.py.
 use Prim.Native.Nat.{ℕ, _+_}
 use mathlib.Core.Path.{_≡_}
 use mathlib.Core.List.{List, [], _∷_}
@@ -226,12 +182,9 @@ for s, n, places, quota, fields, nums, size, at0 in layout:
         steps.append((rest[-2][3], bytes_of(rest[-2:], val)))
     law += chain(f"{n}-put", f"(i at : ℕ) (r : {s})", "at", steps, f"put{n.capitalize()} b i r", f"put{n.capitalize()}", f"{n}Start i")
 write(f"{S}/proofs/Storing.antt", law)
-write(f"{S}/proofs/Lib.antt", "pub mod Storing\n")
-write(f"{C}/proofs/Lib.antt", "pub mod Numbers\npub mod Reading\npub mod Stores\n")
 
 # ---- what a store leaves
 law = """-- THE STORES: that place reads back as the record, every other place and every other table reads as before, the length stays.
--- Written by tools/places.py.
 use Prim.Native.Nat.{ℕ, _+_, _≤_, _<_}
 use mathlib.Core.Path.{_≡_, refl, ap, _∙_}
 use mathlib.Core.List.{List, [], _∷_}
@@ -251,6 +204,10 @@ for k in range(10):
     law += "ten (" + "".join(f"x{m} ∷ " for m in range(k)) + "[]) e = absurd (omega arith)\n"
 law += "ten (" + "".join(f"x{m} ∷ " for m in range(10)) + "[]) e = refl\n"
 law += "ten (" + "".join(f"x{m} ∷ " for m in range(11)) + "v) e = absurd (omega arith)\n"
+law += """
+omega-ne : (i k : ℕ) → i ≤ k → (k ≡ i → ⊥) → i + 1 ≤ k
+omega-ne i k l n = cases (ltb i k) (λ e. omega (arith, ltb-true i k e)) (λ e. absurd (n (omega (arith, ltb-false i k e))))
+"""
 for s, n, places, quota, fields, nums, size, at0 in layout:
     N = n.capitalize()
     arr = any(x[1] is not None for x in nums)
@@ -283,11 +240,11 @@ for s, n, places, quota, fields, nums, size, at0 in layout:
   unfolding {n2}At put{N}
   {n2}-by-{n} h k l = ap {n2}From (numbers-{way} {n2}Widths (bytesOf {n}Widths ({n}Numbers r)) b ({n2}Start k) ({n}Start i) ({fact}))
 """
-law = law.replace("\nmodule _ (b : List ℕ) (i : ℕ) (r : RestrictionType)", "\nomega-ne : (i k : ℕ) → i ≤ k → (k ≡ i → ⊥) → i + 1 ≤ k\nomega-ne i k l n = cases (ltb i k) (λ e. omega (arith, ltb-true i k e)) (λ e. absurd (n (omega (arith, ltb-false i k e))))\n\nmodule _ (b : List ℕ) (i : ℕ) (r : RestrictionType)")
 write(f"{C}/proofs/Stores.antt", law)
 
-# ---- whose a place is
-for s, n, places, quota, fields, nums, size, at0 in layout:
+# ---- whose a place is, and its record
+for t in TABLES:
+    n = t.name
     write(f"{C}/proofs/{n}_csd/Proof.antt", f"""-- `places::{n}_csd` meets its contract. Assumes nothing.
 use borrow.Author.Needs.{{needs}}
 use Rattle.places.specs.Layout.{{{n}At}}
@@ -301,4 +258,17 @@ unfolding {n}At
     (λ c κs. search needs)
     (λ c κs. search needs)
     (λ c. search byte-read))
+""")
+    calls = "    (λ c κs. search needs)\n" * (1 + len(t.numbers))  # the address, then each number
+    write(f"{C}/proofs/{n}_at/Proof.antt", f"""-- `places::{n}_at` meets its contract. Assumes nothing.
+use Rattle.places.proofs.Reading.{{{n}-read}}
+use borrow.Author.Needs.{{needs}}
+use Rattle.places.proofs.{n}_at.Statement.{{statement}}
+use Rattle.places.proofs.{n}_at.Tie as tie
+
+pub {n}-at-spec : {{M : Type 1}} → statement M
+{n}-at-spec =
+    tie.close
+    (tie.spec
+{calls}    (λ c. search {n}-read))
 """)

@@ -1,12 +1,12 @@
 #!/usr/bin/env python3
-"""Writes stdin and stdout of crates/precheck_main: the paper's example (csd 2), the marked questions (csd 1), and the exercise of docs/PROOF.md (csd 3 and 4).
-Usage: precheck_vectors.py DIR (the folder of the vectors; in the repository's root)"""
-import sys
+"""Writes stdin and stdout of crates/precheck_main: the paper's example (csd 2), the marked questions (csd 1), and the
+exercise of docs/PROOF.md (csd 3 and 4)."""
+from output import plain
 
 lines, answers = [], []
 for name in ("paper-example", "marked"):
-    lines += open(f"{sys.argv[1]}/{name}.in").read().split("\n")[:-1]
-    answers += open(f"{sys.argv[1]}/{name}.out").read().split("\n")[:-1]
+    lines += open(f"vectors/{name}.in").read().split("\n")[:-1]
+    answers += open(f"vectors/{name}.out").read().split("\n")[:-1]
 
 # A party hold, type 9: rule 5 holds FREE, the broader rule 7 holds DELI. What each answer must be is worked out in docs/PROOF.md.
 DAYS = "20170207,20991231"
@@ -39,5 +39,5 @@ for csd, again in ((3, RULE5), (4, RULE9)):
     say(csd, taken(again) + [(BOTH, held(min(7, last))), (FREE, held(last))])
 # the same by reordering: the rule and its row
 say(3, [("O,{c},20170206,9,1,5,9", "K"), (BOTH, held(7)), (FREE, held(9)), ("O,{c},20170206,9,1,9,7", "F,8"), ("O,{c},20170206,9,1,9,9", "F,8")])
-open("crates/precheck_main/stdin", "w").write("\n".join(lines) + "\n")
-open("crates/precheck_main/stdout", "w").write("\n".join(answers) + "\n")
+plain("crates/precheck_main/stdin", "\n".join(lines) + "\n")
+plain("crates/precheck_main/stdout", "\n".join(answers) + "\n")

@@ -1,5 +1,6 @@
 -- What the functions find at a place: that it holds a record as asked, or none; and what a count is when places of
--- others are passed. Written by tools/loops.py.
+-- others are passed.
+-- Written by tools/loops.py: change that, then run tools/generate.
 use Prim.Native.Nat.{ℕ, _+_, _≤_}
 use mathlib.Core.Path.{_≡_}
 use mathlib.Core.Bool.{Bool, false}

@@ -1,4 +1,5 @@
-// The lent book: the lone book of each depository, counting and finding in it, emptying.
+// The lent book: the lone book of each depository, counting and finding in it, emptying. The functions over the places
+// of each table are written by tools/loops.py.
 ghost use mathlib.Core.Path.{_≡_};
 ghost use Prim.Native.Nat.{_≤_};
 ghost use Rattle.tables.specs.Count.{count};
@@ -49,7 +50,7 @@ pub fn empty(book: &mut [u8]) -> u8
     1
 }
 
-// ---- The places of each table: written by tools/loops.py.
+// ---- From here on written by tools/loops.py: change that, then run tools/generate.
 
 // Whether place i holds a type of depository a that is as asked. The csd byte is read before the record.
 pub fn type_is(b: &[u8], i: u16, a: u8, q: TypeAsk) -> bool

@@ -1,5 +1,5 @@
 -- The book's four tables: where each place starts, the numbers that stand there, and the record that they are.
--- Written by tools/places.py.
+-- Written by tools/places.py: change that, then run tools/generate.
 use Prim.Native.Nat.{ℕ, _+_, _*_}
 use mathlib.Core.List.{List, [], _∷_}
 use lib.ListN.{getD, drop, replicate}

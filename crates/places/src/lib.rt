@@ -1,4 +1,5 @@
-// The records of the book by value, and their reading at a place. Written by tools/places.py.
+// The records of the book by value, and their reading at a place.
+// Written by tools/places.py: change that, then run tools/generate.
 ghost use mathlib.Core.Path.{_≡_};
 ghost use Prim.Native.Nat.{_+_, _*_};
 ghost use Rattle.tables.specs.Bytes.{byteAt, one, two, three, four, number};

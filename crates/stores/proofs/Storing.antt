@@ -1,5 +1,6 @@
 -- Stores one after the other, as the functions make them. The premises stand last store first: then each says which
--- list the next is about. Written by tools/places.py.
+-- list the next is about.
+-- Written by tools/places.py: change that, then run tools/generate.
 use Prim.Native.Nat.{ℕ, _+_}
 use mathlib.Core.Path.{_≡_}
 use mathlib.Core.List.{List, [], _∷_}

@@ -1,4 +1,5 @@
-// Storing of a record by value at a place of the book. Written by tools/places.py.
+// Storing of a record by value at a place of the book.
+// Written by tools/places.py: change that, then run tools/generate.
 ghost use mathlib.Core.Path.{_≡_};
 ghost use Prim.Native.Nat.{_+_};
 ghost use lib.ListN.{set, getD};

@@ -1,4 +1,5 @@
 -- `book::period_is` meets its contract. Assumes nothing.
+-- Written by tools/loops.py: change that, then run tools/generate.
 use Rattle.book.proofs.BookReturns.{period-hit, period-miss}
 use borrow.Author.Needs.{needs}
 use Rattle.book.proofs.period_is.Statement.{statement}

@@ -1,4 +1,5 @@
 -- `book::row_is` meets its contract. Assumes nothing.
+-- Written by tools/loops.py: change that, then run tools/generate.
 use Rattle.book.proofs.BookReturns.{row-hit, row-miss}
 use borrow.Author.Needs.{needs}
 use Rattle.book.proofs.row_is.Statement.{statement}

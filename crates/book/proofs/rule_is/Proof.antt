@@ -1,4 +1,5 @@
 -- `book::rule_is` meets its contract. Assumes nothing.
+-- Written by tools/loops.py: change that, then run tools/generate.
 use Rattle.book.proofs.BookReturns.{rule-hit, rule-miss}
 use borrow.Author.Needs.{needs}
 use Rattle.book.proofs.rule_is.Statement.{statement}

@@ -1,4 +1,5 @@
 -- `book::type_is` meets its contract. Assumes nothing.
+-- Written by tools/loops.py: change that, then run tools/generate.
 use Rattle.book.proofs.BookReturns.{type-hit, type-miss}
 use borrow.Author.Needs.{needs}
 use Rattle.book.proofs.type_is.Statement.{statement}
