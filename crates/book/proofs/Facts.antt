@@ -10,12 +10,13 @@ use borrow.Author.Tests.{eqb-true, leb-true}
 use Rattle.tables.proofs.Counts.{ands, all-at}
 use Rattle.meaning.specs.Records as M
 use Rattle.meaning.specs.Fields.{within}
-use Rattle.meaning.specs.Sound.{quotas, soundLone}
+use Rattle.meaning.specs.Sound.{soundLone}
 use Rattle.places.specs.Layout.{bookSize}
-use Rattle.records.specs.Tables.{TableName, ofTypes, ofRules, ofRows, ofPeriods, table}
-use Rattle.records.proofs.Tables.{lies, every-table}
+use Rattle.records.specs.Tables.{TableName, table}
+use Rattle.records.proofs.TableFacts.{lies, every-table}
 use Rattle.book.specs.Lone.{list, loneBook}
 use Rattle.book.specs.Sound.{placed, placedIn, allPlaced, sound}
+use Rattle.book.proofs.Lists.{quota-kept}
 
 -- place i of a table is all zero or a depository's
 abbrev pub PlaceRight : List ℕ → TableName → ℕ → Type 0
@@ -46,14 +47,6 @@ facts-of-sound b e = record {
 owner : (c : ℕ) (z : Bool) → (z ≡ true → c ≡ 0) → (z || within 1 8 c) ≡ true → (c ≡ 0 → ⊥) → (1 ≤ c) × (c ≤ 8)
 owner c true nobody e h = absurd (h (nobody refl))
 owner c false nobody e h = (leb-true 1 c (search ands), leb-true c 8 (search ands))
-
--- a depository's list is within the table's quota
-quota-kept : (m : M.Book) → quotas m ≡ true → (k : TableName) → length (list k m) ≤ table k .quota
-unfolding quotas
-quota-kept m e ofTypes = leb-true (length (m .types)) M.typeQuota (search ands)
-quota-kept m e ofRules = leb-true (length (m .rules)) M.ruleQuota (search ands)
-quota-kept m e ofRows = leb-true (length (m .rows)) M.rowQuota (search ands)
-quota-kept m e ofPeriods = leb-true (length (m .periods)) M.periodQuota (search ands)
 
 module _ (b : List ℕ) (g : GoodBook b) (k : TableName) where
   pub place-owner : (i : ℕ) → i < table k .places → (table k .csd (table k .at b i) ≡ 0 → ⊥)

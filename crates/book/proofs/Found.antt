@@ -1,6 +1,6 @@
 -- A free place is found in every table where the depository has room.
 use Prim.Native.Nat.{ℕ, _≤_, _<_}
-use mathlib.Core.Path.{_≡_, ap, sym}
+use mathlib.Core.Path.{_≡_, ap}
 use mathlib.Core.Bool.{Bool, true}
 use mathlib.Core.List.{List}
 use native.Mathlib.Omega.{arith}
@@ -8,7 +8,7 @@ use lib.ListN.{length}
 use Rattle.tables.specs.Table.{placeOf}
 use Rattle.tables.proofs.Listed.{found-free}
 use Rattle.records.specs.Tables.{TableName, Said, table}
-use Rattle.records.proofs.Tables.{room}
+use Rattle.records.proofs.TableFacts.{room}
 use Rattle.book.specs.Lone.{loneBook, list}
 use Rattle.book.proofs.Facts.{GoodBook, place-owner, list-few}
 use Rattle.book.proofs.Lists.{lone-list}

@@ -1,15 +1,20 @@
 -- The lists of a lone book by their tables: a book is its lists, and a book with another list has that one and the
 -- others as they were.
-use Prim.Native.Nat.{ℕ}
-use mathlib.Core.Path.{_≡_, refl, ap, sym, _∙_}
-use mathlib.Core.List.{List}
-use Rattle.tables.specs.Count.{count, Same}
+-- Written by tools/values.py: change that, then run tools/generate.
+use Prim.Native.Nat.{ℕ, _≤_}
+use mathlib.Core.Path.{_≡_, refl}
+use mathlib.Core.Bool.{true}
+use mathlib.Core.List.{List, []}
+use lib.ListN.{length}
+use borrow.Author.Tests.{leb-true}
+use Rattle.tables.specs.Count.{Same}
 use Rattle.tables.specs.Table.{listOf}
+use Rattle.tables.proofs.Counts.{ands}
 use Rattle.meaning.specs.Records as M
+use Rattle.meaning.specs.Sound.{quotas}
 use Rattle.meaning.specs.Edits.{withTypes, withRules, withRows, withPeriods}
 use Rattle.meaning.specs.SameBook.{SameBook}
 use Rattle.records.specs.Tables.{TableName, ofTypes, ofRules, ofRows, ofPeriods, Said, table, rank}
-use Rattle.records.proofs.Tables.{by-table}
 use Rattle.book.specs.Lone.{typesOf, rulesOf, rowsOf, periodsOf, loneBook, list}
 
 pub lone-list : (k : TableName) (a : ℕ) (b : List ℕ) → list k (loneBook a b) ≡ listOf (table k) a b
@@ -33,8 +38,19 @@ list-same m n s ofRules = s .rules
 list-same m n s ofRows = s .rows
 list-same m n s ofPeriods = s .periods
 
-pub same-then : (l m n : M.Book) → SameBook l m → SameBook m n → SameBook l n
-same-then l m n s t = book-same l n (λ k p. list-same l m s k p ∙ list-same m n t k p)
+pub empty-list : (k : TableName) → [] ≡ list k M.empty
+empty-list ofTypes = refl
+empty-list ofRules = refl
+empty-list ofRows = refl
+empty-list ofPeriods = refl
+
+-- a list of a book within its quotas is within the table's
+pub quota-kept : (m : M.Book) → quotas m ≡ true → (k : TableName) → length (list k m) ≤ table k .quota
+unfolding quotas
+quota-kept m e ofTypes = leb-true (length (m .types)) M.typeQuota (search ands)
+quota-kept m e ofRules = leb-true (length (m .rules)) M.ruleQuota (search ands)
+quota-kept m e ofRows = leb-true (length (m .rows)) M.rowQuota (search ands)
+quota-kept m e ofPeriods = leb-true (length (m .periods)) M.periodQuota (search ands)
 
 -- ---- a book with another list
 
@@ -68,11 +84,3 @@ with-other ofPeriods ofTypes d l m = refl
 with-other ofPeriods ofRules d l m = refl
 with-other ofPeriods ofRows d l m = refl
 with-other ofPeriods ofPeriods d l m = absurd (d refl)
-
-pub with-same : (k : TableName) (l l′ : List (Said k)) (m n : M.Book) → Same l l′ → SameBook m n
-    → SameBook (withList k l m) (withList k l′ n)
-with-same k l l′ m n h s =
-    book-same (withList k l m) (withList k l′ n)
-    (by-table {F = λ j. Same (list j (withList k l m)) (list j (withList k l′ n))} k
-    (λ p. ap (count p) (with-that k l m) ∙ h p ∙ sym (ap (count p) (with-that k l′ n)))
-    (λ j d p. ap (count p) (with-other k j d l m) ∙ list-same m n s j p ∙ sym (ap (count p) (with-other k j d l′ n))))

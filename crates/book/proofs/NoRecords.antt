@@ -1,8 +1,8 @@
 -- What emptying makes: a sound book, in which every depository's lone book is empty.
 use Prim.Native.Nat.{ℕ, _+_, _≤_}
 use mathlib.Core.Path.{_≡_, refl, ap, _∙_}
-use mathlib.Core.Bool.{Bool, true, _||_}
-use mathlib.Core.List.{List, []}
+use mathlib.Core.Bool.{true, _||_}
+use mathlib.Core.List.{List}
 use native.Mathlib.Omega.{arith}
 use lib.ListN.{length}
 use borrow.Author.Tests.{eq-eqb, ne-eqb}
@@ -14,12 +14,12 @@ use Rattle.meaning.specs.Records as M
 use Rattle.meaning.specs.Fields.{within}
 use Rattle.meaning.specs.Sound.{soundLone}
 use Rattle.places.specs.Layout.{bookSize}
-use Rattle.records.specs.Tables.{TableName, ofTypes, ofRules, ofRows, ofPeriods, table}
-use Rattle.records.proofs.Tables.{lies, table-every}
-use Rattle.book.specs.Lone.{loneBook, list}
+use Rattle.records.specs.Tables.{table}
+use Rattle.records.proofs.TableFacts.{lies, table-every}
+use Rattle.book.specs.Lone.{loneBook}
 use Rattle.book.specs.Sound.{placed, placedIn, allPlaced, sound}
 use Rattle.book.specs.Emptied.{emptyAnswer, emptyBytes, Emptied}
-use Rattle.book.proofs.Lists.{lone-list, book-equal}
+use Rattle.book.proofs.Lists.{lone-list, book-equal, empty-list}
 
 -- ---- what empty does
 
@@ -38,12 +38,6 @@ emptied-no b h = record { answered = rw (ne-eqb (length b) bookSize h); bytes = 
 
 pub lone-zeros : (n a : ℕ) → 1 ≤ a → loneBook a (zeros n) ≡ M.empty
 lone-zeros n a l = book-equal (loneBook a (zeros n)) M.empty (λ k. lone-list k a (zeros n) ∙ list-zeros (table k) (lies k) n a l ∙ empty-list k)
-  where
-    empty-list : (k : TableName) → [] ≡ list k M.empty
-    empty-list ofTypes = refl
-    empty-list ofRules = refl
-    empty-list ofRows = refl
-    empty-list ofPeriods = refl
 
 empty-sound : soundLone M.empty ≡ true
 unfolding soundLone

@@ -5,12 +5,12 @@ use mathlib.Core.Bool.{true}
 use mathlib.Core.List.{List}
 use lib.ListN.{length}
 use Rattle.tables.specs.Count.{count, Same}
-use Rattle.tables.specs.Table.{listOf}
 use Rattle.tables.proofs.Lone.{lone-same}
 use Rattle.tables.proofs.Stored.{length-stored, apart}
 use Rattle.meaning.specs.SameBook.{SameBook}
 use Rattle.records.specs.Tables.{TableName, Place, Said, table, rank}
-use Rattle.records.proofs.Tables.{lies, apart-tables, every-table, table-every, by-table}
+use Rattle.records.proofs.TableFacts.{lies, every-table, table-every}
+use Rattle.records.proofs.Tables.{apart-tables, by-table}
 use Rattle.book.specs.Lone.{loneBook, list}
 use Rattle.book.specs.Sound.{placedIn, allPlaced}
 use Rattle.book.proofs.Lists.{lone-list, book-equal, book-same, withList, with-that, with-other}

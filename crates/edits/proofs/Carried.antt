@@ -22,10 +22,11 @@ use Rattle.places.specs.Layout.{bookSize, rulePlaces, rowPlaces, ruleAt, putRul
 use Rattle.records.specs.Said.{ruleOf, rowOf}
 use Rattle.records.specs.Free.{rowZero}
 use Rattle.records.specs.Tables.{ofRules, ofRows, table}
-use Rattle.records.proofs.Tables.{lies, inside}
+use Rattle.records.proofs.TableFacts.{lies}
+use Rattle.records.proofs.Tables.{inside}
 use Rattle.book.specs.Lone.{rulesOf, rowsOf, loneBook}
 use Rattle.book.specs.Sound.{placedIn}
-use Rattle.book.proofs.Lists.{same-then, with-same}
+use Rattle.book.proofs.SameBooks.{same-then, with-same}
 use Rattle.book.proofs.Placed.{of-one}
 use Rattle.edits.specs.Leaves.{Leaves}
 use Rattle.edits.specs.Moves.{ruleWith, rowWith, carried, carryRow, carryRows, reorderIn}

@@ -5,7 +5,7 @@ use mathlib.Core.Bool.{Bool, true, _||_}
 use mathlib.Core.List.{List, _∷_}
 use native.Mathlib.Omega.{arith}
 use lib.ListN.{length}
-use Rattle.tables.specs.Count.{count, without, change, Same}
+use Rattle.tables.specs.Count.{count, without, change}
 use Rattle.tables.specs.Table.{end, vacant, listOf, Fits}
 use Rattle.tables.proofs.Lists.{same-equal}
 use Rattle.tables.proofs.Stored.{back, other}
@@ -13,7 +13,8 @@ use Rattle.tables.proofs.Listed.{vacant-fits, vacant-nobody, list-still, list-a
 use Rattle.meaning.specs.Fields.{within}
 use Rattle.places.specs.Layout.{bookSize}
 use Rattle.records.specs.Tables.{TableName, Place, Said, table}
-use Rattle.records.proofs.Tables.{lies, inside}
+use Rattle.records.proofs.TableFacts.{lies}
+use Rattle.records.proofs.Tables.{inside}
 use Rattle.book.specs.Lone.{loneBook, list}
 use Rattle.book.specs.Sound.{placedIn}
 use Rattle.book.proofs.Lists.{lone-list, withList}

@@ -1,4 +1,4 @@
--- A row's values are a list of ten. Written by tools/places.py.
+-- A row's values are a list of ten: its ten elements.
 use Prim.Native.Nat.{ℕ}
 use mathlib.Core.Path.{_≡_, refl}
 use mathlib.Core.List.{List, [], _∷_}

@@ -1,4 +1,5 @@
 -- The book's tables, each a value (`tables/specs/Table`), and their names. Assumes nothing.
+-- Written by tools/values.py: change that, then run tools/generate.
 use Prim.Native.Nat.{ℕ, _*_}
 use mathlib.Core.Bool.{Bool, _&&_}
 use mathlib.Core.List.{List, [], _∷_}

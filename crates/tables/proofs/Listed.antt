@@ -1,12 +1,12 @@
 -- What a store at one place leaves of the depositories' lists, for any table, and which place is found in it.
-use Prim.Native.Nat.{ℕ, _+_, _*_, _≤_, _<_}
+use Prim.Native.Nat.{ℕ, _*_, _≤_, _<_}
 use mathlib.Core.Path.{_≡_, ap, sym, _∙_}
 use mathlib.Core.Bool.{Bool, true}
 use mathlib.Core.List.{List, [], _∷_}
 use native.Mathlib.Omega.{arith}
 use lib.Dec.{lit<}
 use lib.ListN.{length, replicate}
-use Rattle.tables.specs.Bytes.{Width, one, two, three, four, Hold, numbers, zeros}
+use Rattle.tables.specs.Bytes.{Width, one, two, three, four, Hold, zeros}
 use Rattle.tables.specs.Count.{count, without, change, Same}
 use Rattle.tables.specs.Table.{Table, address, end, vacant, listOf, placeOf, Lies, Fits, Apart}
 use Rattle.tables.proofs.Lone.{lone-same, lone-removed, lone-changed, lone-still, lone-added}
