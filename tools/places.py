@@ -183,65 +183,6 @@ for s, n, places, quota, fields, nums, size, at0 in layout:
     law += chain(f"{n}-put", f"(i at : ℕ) (r : {s})", "at", steps, f"put{n.capitalize()} b i r", f"put{n.capitalize()}", f"{n}Start i")
 write(f"{S}/proofs/Storing.antt", law)
 
-# ---- what a store leaves
-law = """-- THE STORES: that place reads back as the record, every other place and every other table reads as before, the length stays.
-use Prim.Native.Nat.{ℕ, _+_, _≤_, _<_}
-use mathlib.Core.Path.{_≡_, refl, ap, _∙_}
-use mathlib.Core.List.{List, [], _∷_}
-use native.Mathlib.Omega.{arith}
-use lib.Dec.{ltb}
-use lib.ListN.{length, getD}
-use borrow.Author.Tests.{ltb-true, ltb-false}
-use Rattle.tables.specs.Bytes.{digits, bytesOf, Hold}
-use Rattle.tables.proofs.Counts.{cases}
-use Rattle.tables.proofs.Bytes.{length-puts, numbers-put, numbers-before, numbers-behind}
-use Rattle.places.specs.Layout.{LAYOUT}
-USES
--- the ten values of a row
-""".replace("LAYOUT", ", ".join(f"{n}Places, {n}Width, {n}Start, {n}Widths, {n}From, {n}Numbers, {n}At, put{n.capitalize()}" for _, n, *_ in layout)).replace("USES", "\n".join(f"use Rattle.places.specs.declared.{s}.{{{s}}}" for s, *_ in layout))
-law += "pub ten : (v : List ℕ) → length v ≡ 10 → " + " ∷ ".join(f"getD v {k} 0" for k in range(10)) + " ∷ [] ≡ v\n"
-for k in range(10):
-    law += "ten (" + "".join(f"x{m} ∷ " for m in range(k)) + "[]) e = absurd (omega arith)\n"
-law += "ten (" + "".join(f"x{m} ∷ " for m in range(10)) + "[]) e = refl\n"
-law += "ten (" + "".join(f"x{m} ∷ " for m in range(11)) + "v) e = absurd (omega arith)\n"
-law += """
-omega-ne : (i k : ℕ) → i ≤ k → (k ≡ i → ⊥) → i + 1 ≤ k
-omega-ne i k l n = cases (ltb i k) (λ e. omega (arith, ltb-true i k e)) (λ e. absurd (n (omega (arith, ltb-false i k e))))
-"""
-for s, n, places, quota, fields, nums, size, at0 in layout:
-    N = n.capitalize()
-    arr = any(x[1] is not None for x in nums)
-    law += f"\nmodule _ (b : List ℕ) (i : ℕ) (r : {s}) where\n"
-    law += f"  pub length-{n} : length (put{N} b i r) ≡ length b\n  unfolding put{N}\n  length-{n} = length-puts (bytesOf {n}Widths ({n}Numbers r)) b ({n}Start i) 0\n"
-    law += f"\n  {n}-bytes : length (bytesOf {n}Widths ({n}Numbers r)) ≡ {n}Width\n  unfolding digits bytesOf\n  {n}-bytes = refl\n"
-    back = "length (r .values) ≡ 10 → " if arr else ""
-    law += f"\n  pub {n}-back : {back}Hold {n}Widths ({n}Numbers r) → {n}Start i + {n}Width ≤ length b → {n}At (put{N} b i r) i ≡ r\n  unfolding {n}At put{N}\n"
-    put = f"ap {n}From (numbers-put {n}Widths ({n}Numbers r) b ({n}Start i) 0 h fits)"
-    law += f"  {n}-back {'len ' if arr else ''}h fits = {put}" + (f" ∙ (λ k. record {{ csd = r .csd; number = r .number; object = r .object; sequence = r .sequence; values = ten (r .values) len k }})" if arr else "") + "\n"
-    law += f"""
-  pub {n}-other : (k : ℕ) → (k ≡ i → ⊥) → {n}At (put{N} b i r) k ≡ {n}At b k
-  unfolding {n}At put{N}
-  {n}-other k n =
-      cases (ltb k i)
-      (λ e.
-      let l = ltb-true k i e in
-      ap {n}From (numbers-before {n}Widths (bytesOf {n}Widths ({n}Numbers r)) b ({n}Start k) ({n}Start i) (omega arith)))
-      (λ e.
-      let l = ltb-false k i e in
-      let m : i + 1 ≤ k = omega-ne i k l n in
-      ap {n}From (numbers-behind {n}Widths (bytesOf {n}Widths ({n}Numbers r)) b ({n}Start k) ({n}Start i) (omega (arith, {n}-bytes))))
-"""
-    for s2, n2, places2, q2, f2, nums2, size2, at2 in layout:
-        if n2 == n:
-            continue
-        way, fact = ("before", "omega arith") if at2 < at0 else ("behind", f"omega (arith, {n}-bytes)")
-        law += f"""
-  pub {n2}-by-{n} : i < {n}Places → (k : ℕ) → k < {n2}Places → {n2}At (put{N} b i r) k ≡ {n2}At b k
-  unfolding {n2}At put{N}
-  {n2}-by-{n} h k l = ap {n2}From (numbers-{way} {n2}Widths (bytesOf {n}Widths ({n}Numbers r)) b ({n2}Start k) ({n}Start i) ({fact}))
-"""
-write(f"{C}/proofs/Stores.antt", law)
-
 # ---- whose a place is, and its record
 for t in TABLES:
     n = t.name

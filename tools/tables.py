@@ -15,8 +15,6 @@ class Table:
     said: str = ""  # what the named numbers are
     named: list = field(default_factory=list)  # numbers that a field may hold, by name, as document 01 names them
     beside: bool = False  # a row stands beside what is asked of its records
-    deleted: bool = False  # a command deletes a record
-    changed: bool = False  # a command changes a record where it stands
     start: int = 0  # the address of the first place; set below
 
     @property
@@ -52,27 +50,25 @@ TABLES = [
         places=128, quota=16,
         fields=[("csd", 1), ("number", 1), ("object", 1), ("processing", 1), ("first", 4), ("last", 4)],
         said="Objects, then processings.",
-        named=[("INSTRUCTION", 1), ("RESTRICTION", 2), ("REJECTION", 1), ("VALIDATION_HOLD", 2), ("PARTY_HOLD", 3)],
-        changed=True),
+        named=[("INSTRUCTION", 1), ("RESTRICTION", 2), ("REJECTION", 1), ("VALIDATION_HOLD", 2), ("PARTY_HOLD", 3)]),
     Table(
         "Rule", "rule", "Rule", "A rule of a type, with the criteria that its rows fill.",
         places=512, quota=64,
         fields=[("csd", 1), ("number", 1), ("object", 1), ("sequence", 1), ("sign", 1), ("criteria", 2), ("first", 4),
                 ("last", 4)],
         said="Signs.", named=[("POSITIVE", 1), ("NEGATIVE", 2)],
-        beside=True, deleted=True, changed=True),
+        beside=True),
     Table(
         "Row", "row", "Row", "A row of a rule: its ten values, 0 where empty.",
         places=1024, quota=128,
         fields=[("csd", 1), ("number", 1), ("object", 1), ("sequence", 1), ("values", [1, 1, 1, 4, 3, 3, 2, 2, 2, 3])],
-        beside=True, deleted=True),
+        beside=True),
     Table(
         "Period", "period", "Period",
         "An attribute period: the days on which a party, an account or a security has a code.",
         places=1024, quota=128,
         fields=[("csd", 1), ("kind", 1), ("number", 3), ("code", 2), ("first", 4), ("last", 4)],
-        said="Kinds.", named=[("PARTY", 1), ("ACCOUNT", 2), ("SECURITY", 3)],
-        changed=True),
+        said="Kinds.", named=[("PARTY", 1), ("ACCOUNT", 2), ("SECURITY", 3)]),
 ]
 
 # one behind the other; what is left is the book's size

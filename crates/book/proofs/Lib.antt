@@ -1,7 +1,9 @@
 pub mod Looking
 pub mod Place
 pub mod BookReturns
+pub mod Lists
+pub mod SameBooks
 pub mod NoRecords
 pub mod Facts
 pub mod Found
-pub mod ListsKept
+pub mod Placed

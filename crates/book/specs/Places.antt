@@ -1,12 +1,12 @@
 -- Which place of a table holds a record as asked. Assumes nothing.
 use Prim.Native.Nat.{ℕ}
 use mathlib.Core.List.{List}
-use mathlib.Core.Bool.{Bool, _&&_}
-use lib.Dec.{eqb}
+use mathlib.Core.Bool.{Bool}
 use Rattle.tables.specs.Count.{findBelow}
+use Rattle.tables.specs.Table.{hit}
 use Rattle.meaning.specs.Records as M
-use Rattle.places.specs.Layout.{typeAt, ruleAt, rowAt, periodAt, typePlaces, rulePlaces, rowPlaces, periodPlaces}
-use Rattle.records.specs.Said.{typeOf, ruleOf, rowOf, periodOf}
+use Rattle.places.specs.Layout.{typePlaces, rulePlaces, rowPlaces, periodPlaces}
+use Rattle.records.specs.Tables.{ofTypes, ofRules, ofRows, ofPeriods, table}
 use Rattle.records.specs.Asks.{typeMeets, ruleMeets, rowMeets, periodMeets}
 use Rattle.records.specs.declared.TypeAsk.{TypeAsk}
 use Rattle.records.specs.declared.RuleAsk.{RuleAsk}
@@ -16,16 +16,16 @@ use Rattle.records.specs.declared.PeriodAsk.{PeriodAsk}
 -- ---- the place holds a record of depository a that is as asked. A free place is depository 0's
 
 unfoldable pub typeHit : List ℕ → ℕ → TypeAsk → ℕ → Bool
-typeHit b a q k = eqb (typeAt b k .csd) a && typeMeets q (typeOf (typeAt b k))
+typeHit b a q k = hit (table ofTypes) b a (typeMeets q) k
 
 unfoldable pub ruleHit : List ℕ → ℕ → RuleAsk → M.Row → ℕ → Bool
-ruleHit b a q w k = eqb (ruleAt b k .csd) a && ruleMeets q w (ruleOf (ruleAt b k))
+ruleHit b a q w k = hit (table ofRules) b a (ruleMeets q w) k
 
 unfoldable pub rowHit : List ℕ → ℕ → RowAsk → M.Row → ℕ → Bool
-rowHit b a q w k = eqb (rowAt b k .csd) a && rowMeets q w (rowOf (rowAt b k))
+rowHit b a q w k = hit (table ofRows) b a (rowMeets q w) k
 
 unfoldable pub periodHit : List ℕ → ℕ → PeriodAsk → ℕ → Bool
-periodHit b a q k = eqb (periodAt b k .csd) a && periodMeets q (periodOf (periodAt b k))
+periodHit b a q k = hit (table ofPeriods) b a (periodMeets q) k
 
 -- the last such place; the number of places where there is none
 

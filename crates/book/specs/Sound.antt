@@ -8,18 +8,20 @@ use lib.ListN.{length}
 use Rattle.tables.specs.Count.{allBelow}
 use Rattle.meaning.specs.Fields.{within}
 use Rattle.meaning.specs.Sound.{soundLone}
-use Rattle.places.specs.Layout.{typeAt, ruleAt, rowAt, periodAt, bookSize, typePlaces, rulePlaces, rowPlaces, periodPlaces}
-use Rattle.records.specs.Free.{typeZero, ruleZero, rowZero, periodZero}
+use Rattle.places.specs.Layout.{bookSize}
+use Rattle.records.specs.Tables.{TableName, table, everyTable}
 use Rattle.book.specs.Lone.{loneBook}
 
 -- the places below n are each free or of a depository, 1 to 8
 unfoldable pub placed : {P : Type 0} → (P → ℕ) → (P → Bool) → (ℕ → P) → ℕ → Bool
 placed csd free at n = allBelow (λ k. free (at k) || within 1 8 (csd (at k))) n
 
+-- those of a table
+abbrev pub placedIn : List ℕ → TableName → Bool
+placedIn b k = placed (table k .csd) (table k .free) (table k .at b) (table k .places)
+
 unfoldable pub allPlaced : List ℕ → Bool
-allPlaced b =
-    (placed (λ r. r .csd) typeZero (typeAt b) typePlaces && placed (λ r. r .csd) ruleZero (ruleAt b) rulePlaces)
-    && (placed (λ r. r .csd) rowZero (rowAt b) rowPlaces && placed (λ r. r .csd) periodZero (periodAt b) periodPlaces)
+allPlaced b = everyTable (placedIn b)
 
 unfoldable pub sound : List ℕ → Bool
 sound b = eqb (length b) bookSize && (allPlaced b && allBelow (λ a. soundLone (loneBook (a + 1) b)) 8)

@@ -1,6 +1,6 @@
 -- What a reorder leaves of the lone books: the rule and all its rows have the new sequence.
 use Prim.Native.Nat.{ℕ, zero, suc, _+_, _≤_, _<_}
-use mathlib.Core.Path.{_≡_, refl, ap, sym, _∙_}
+use mathlib.Core.Path.{_≡_, refl, ap, sym, _∙_, subst}
 use mathlib.Core.Bool.{true, false, cond}
 use mathlib.Core.List.{List, [], _∷_}
 use native.Mathlib.Numerals.{add-one}
@@ -9,23 +9,29 @@ use lib.Dec.{eqb}
 use lib.ListN.{length}
 use borrow.Author.Tests.{eq-eqb, eqb-true, ne-eqb}
 use Rattle.tables.specs.Count.{count, alter, change}
-use Rattle.tables.specs.Bytes.{Hold}
+use Rattle.tables.specs.Table.{Fits}
 use Rattle.tables.proofs.Counts.{cases, cases-eq}
 use Rattle.tables.proofs.Lone.{lone-altered}
 use Rattle.tables.proofs.Lists.{same-equal}
+use Rattle.tables.proofs.Stored.{back, other}
 use Rattle.meaning.specs.Records as M
 use Rattle.meaning.specs.Keys.{isRule, ofRule}
 use Rattle.meaning.specs.Edits as E
-use Rattle.places.specs.Layout.{bookSize, rulePlaces, rowPlaces, ruleAt, putRule, ruleWidths, ruleNumbers, rowAt, rowWidths, rowNumbers}
-use Rattle.places.proofs.Stores.{length-rule, length-row, row-back, row-other, row-by-rule}
+use Rattle.meaning.specs.SameBook.{SameBook}
+use Rattle.places.specs.Layout.{bookSize, rulePlaces, rowPlaces, ruleAt, putRule, rowAt}
 use Rattle.records.specs.Said.{ruleOf, rowOf}
-use Rattle.book.specs.Lone.{typesOf, rulesOf, rowsOf, periodsOf, loneBook}
-use Rattle.records.specs.Free.{ruleZero, rowZero}
-use Rattle.book.specs.Sound.{allPlaced}
+use Rattle.records.specs.Free.{rowZero}
+use Rattle.records.specs.Tables.{ofRules, ofRows, table}
+use Rattle.records.proofs.TableFacts.{lies}
+use Rattle.records.proofs.Tables.{inside}
+use Rattle.book.specs.Lone.{rulesOf, rowsOf, loneBook}
+use Rattle.book.specs.Sound.{placedIn}
+use Rattle.book.proofs.SameBooks.{same-then, with-same}
+use Rattle.book.proofs.Placed.{of-one}
 use Rattle.edits.specs.Leaves.{Leaves}
-use Rattle.edits.proofs.Placed.{of-one, rule-placed, row-placed}
 use Rattle.edits.specs.Moves.{ruleWith, rowWith, carried, carryRow, carryRows, reorderIn}
-use Rattle.book.proofs.ListsKept.{types-by-rule, types-by-row, rules-by-row, rows-by-rule, periods-by-rule, periods-by-row, rules-still, rules-changed}
+use Rattle.edits.proofs.Alone.{Only, only-none, only-then, only-stored, list-other, only-leaves}
+use Rattle.edits.proofs.Edits.{stored-placed, changed}
 
 alter-none : {R : Type 0} (l : List R) → alter (λ x. x) l ≡ l
 unfolding alter
@@ -34,37 +40,14 @@ alter-none (x ∷ l) = ap (λ m. x ∷ m) (alter-none l)
 
 module _ (c n o s new : ℕ) (b : List ℕ) where
   -- The rows are carried in the rows' table alone.
-  pub carried-length : (m : ℕ) → length (carryRows c n o s new b m) ≡ length b
+  pub carried-only : (m : ℕ) → m ≤ rowPlaces → Only ofRows b (carryRows c n o s new b m)
   unfolding carryRows
-  carried-length zero = refl
-  carried-length (suc m) =
+  carried-only zero l = only-none ofRows b
+  carried-only (suc m) l =
+      let r = carried-only m (omega arith) in
       cases (carried c n o s new (rowAt b m))
-      (λ e. rw e (length-row (carryRows c n o s new b m) m (rowWith new (rowAt b m)) ∙ carried-length m))
-      (λ e. rw e (carried-length m))
-
-  pub types-carried : (a m : ℕ) → m ≤ rowPlaces → typesOf a (carryRows c n o s new b m) ≡ typesOf a b
-  unfolding carryRows
-  types-carried a zero l = refl
-  types-carried a (suc m) l =
-      cases (carried c n o s new (rowAt b m))
-      (λ e. rw e (types-by-row (carryRows c n o s new b m) m (rowWith new (rowAt b m)) (omega arith) a ∙ types-carried a m (omega arith)))
-      (λ e. rw e (types-carried a m (omega arith)))
-
-  pub rules-carried : (a m : ℕ) → m ≤ rowPlaces → rulesOf a (carryRows c n o s new b m) ≡ rulesOf a b
-  unfolding carryRows
-  rules-carried a zero l = refl
-  rules-carried a (suc m) l =
-      cases (carried c n o s new (rowAt b m))
-      (λ e. rw e (rules-by-row (carryRows c n o s new b m) m (rowWith new (rowAt b m)) (omega arith) a ∙ rules-carried a m (omega arith)))
-      (λ e. rw e (rules-carried a m (omega arith)))
-
-  pub periods-carried : (a m : ℕ) → m ≤ rowPlaces → periodsOf a (carryRows c n o s new b m) ≡ periodsOf a b
-  unfolding carryRows
-  periods-carried a zero l = refl
-  periods-carried a (suc m) l =
-      cases (carried c n o s new (rowAt b m))
-      (λ e. rw e (periods-by-row (carryRows c n o s new b m) m (rowWith new (rowAt b m)) (omega arith) a ∙ periods-carried a m (omega arith)))
-      (λ e. rw e (periods-carried a m (omega arith)))
+      (λ e. rw e (only-then ofRows b (carryRows c n o s new b m) _ r (only-stored ofRows (carryRows c n o s new b m) m (rowWith new (rowAt b m)) (omega arith))))
+      (λ e. rw e r)
 
   pub ten-values : (k : ℕ) → length (rowAt b k .values) ≡ 10
   unfolding rowAt
@@ -76,7 +59,7 @@ module _ (c n o s new : ℕ) (b : List ℕ) where
   ahead zero k l = refl
   ahead (suc m) k l =
       cases (carried c n o s new (rowAt b m))
-      (λ e. rw e (row-other (carryRows c n o s new b m) m (rowWith new (rowAt b m)) k (λ z. omega arith) ∙ ahead m k (omega arith)))
+      (λ e. rw e (other (table ofRows) (lies ofRows) (carryRows c n o s new b m) m (rowWith new (rowAt b m)) k (λ z. omega arith) ∙ ahead m k (omega arith)))
       (λ e. rw e (ahead m k (omega arith)))
 
   -- one place more, as the loop takes it
@@ -92,7 +75,7 @@ module _ (c n o s new : ℕ) (b : List ℕ) where
       → b″ ≡ carryRows c n o s new b (m + 1)
   carry-next b′ b″ m e f = f ∙ ap (λ z. carryRow c n o s new z m) e ∙ sym (carry-more m)
 
-  module _ (size : length b ≡ bookSize) (holds : (k : ℕ) → k < rowPlaces → rowAt b k .csd ≡ c → Hold rowWidths (rowNumbers (rowWith new (rowAt b k)))) where
+  module _ (size : length b ≡ bookSize) (fits : (k : ℕ) → k < rowPlaces → rowAt b k .csd ≡ c → Fits (table ofRows) (rowWith new (rowAt b k))) where
     whose : (k : ℕ) → carried c n o s new (rowAt b k) ≡ true → rowAt b k .csd ≡ c
     unfolding carried
     whose k e = cases (eqb (rowAt b k .csd) c) (λ z. eqb-true (rowAt b k .csd) c z) (λ z. absurd (no (rw z at e)))
@@ -111,15 +94,15 @@ module _ (c n o s new : ℕ) (b : List ℕ) where
         (cases (carried c n o s new (rowAt b m))
         (λ e.
         rw e
-        (row-back (carryRows c n o s new b m) m (rowWith new (rowAt b m)) (ten-values m) (holds m (omega arith) (whose m e)) (omega (arith, carried-length m))))
+        (back (table ofRows) (lies ofRows) (carryRows c n o s new b m) m (rowWith new (rowAt b m)) (fits m (omega arith) (whose m e)) (omega arith) (omega (arith, inside ofRows, carried-only m (omega arith) .size))))
         (λ e. rw e (ahead m m (omega arith)))))
         (λ z.
         cases (carried c n o s new (rowAt b m))
-        (λ e. rw e (row-other (carryRows c n o s new b m) m (rowWith new (rowAt b m)) k z ∙ passed m k (omega arith) (omega arith)))
+        (λ e. rw e (other (table ofRows) (lies ofRows) (carryRows c n o s new b m) m (rowWith new (rowAt b m)) k z ∙ passed m k (omega arith) (omega arith)))
         (λ e. rw e (passed m k (omega arith) (omega arith))))
 
-    pub carried-placed : 1 ≤ c → c ≤ 8 → (m : ℕ) → m ≤ rowPlaces → allPlaced b ≡ true
-        → allPlaced (carryRows c n o s new b m) ≡ true
+    pub carried-placed : 1 ≤ c → c ≤ 8 → (m : ℕ) → m ≤ rowPlaces → placedIn b ofRows ≡ true
+        → placedIn (carryRows c n o s new b m) ofRows ≡ true
     unfolding carryRows
     carried-placed low high zero l e = e
     carried-placed low high (suc m) l e =
@@ -128,8 +111,8 @@ module _ (c n o s new : ℕ) (b : List ℕ) where
         (λ t.
         let z = whose m t in
         rw t
-        (row-placed (carryRows c n o s new b m) m (rowWith new (rowAt b m)) (omega arith) (ten-values m) (holds m (omega arith) z)
-        (carried-length m ∙ size) (of-one (rowZero (rowWith new (rowAt b m))) (rowAt b m .csd) (rw z low) (rw z high)) r))
+        (stored-placed ofRows (carryRows c n o s new b m) m (carried-only m (omega arith) .size ∙ size) (omega arith) (rowWith new (rowAt b m)) (fits m (omega arith) z)
+        (of-one (rowZero (rowWith new (rowAt b m))) (rowAt b m .csd) (rw z low) (rw z high)) r))
         (λ t. rw t r)
 
     same-csd : (k : ℕ) → k < rowPlaces → rowAt (carryRows c n o s new b rowPlaces) k .csd ≡ rowAt b k .csd
@@ -155,35 +138,49 @@ module _ (c n o s new : ℕ) (b : List ℕ) where
         ∙ rw (ne-eqb (rowAt b k .csd) c (λ z. d (sym z ∙ e))))
         ∙ alter-none _
 
+-- one edit after the other
+leaves-then : (b b′ b″ : List ℕ) (c : ℕ) (m m′ n : M.Book) → Leaves b b′ c m → Leaves b′ b″ c m′ → SameBook m′ n
+    → Leaves b b″ c n
+leaves-then b b′ b″ c m m′ n l l′ s = record {
+  size = l′ .size ∙ l .size;
+  places = λ e. l′ .places (l .places e);
+  own = same-then (loneBook c b″) m′ n (l′ .own) s;
+  others = λ a low d. l′ .others a low d ∙ l .others a low d;
+}
+
 -- O: the rule, and all its rows
-module _ (b : List ℕ) (i c n o s new : ℕ) (size : length b ≡ bookSize) (low : 1 ≤ c) (high : c ≤ 8) (place : i < rulePlaces) (own : ruleAt b i .csd ≡ c) (hit : isRule n o s (ruleOf (ruleAt b i)) ≡ true) (once : count (isRule n o s) (rulesOf c b) ≤ 1) (rule-holds : Hold ruleWidths (ruleNumbers (ruleWith new (ruleAt b i)))) (row-holds : (k : ℕ) → k < rowPlaces → rowAt b k .csd ≡ c → Hold rowWidths (rowNumbers (rowWith new (rowAt b k)))) where
+module _ (b : List ℕ) (i c n o s new : ℕ) (size : length b ≡ bookSize) (low : 1 ≤ c) (high : c ≤ 8) (place : i < rulePlaces) (own : ruleAt b i .csd ≡ c) (hit : isRule n o s (ruleOf (ruleAt b i)) ≡ true) (once : count (isRule n o s) (rulesOf c b) ≤ 1) (rule-fits : Fits (table ofRules) (ruleWith new (ruleAt b i))) (row-fits : (k : ℕ) → k < rowPlaces → rowAt b k .csd ≡ c → Fits (table ofRows) (rowWith new (rowAt b k))) where
   abbrev moved : List ℕ
   moved = putRule b i (ruleWith new (ruleAt b i))
 
-  moved-holds : (k : ℕ) → k < rowPlaces → rowAt moved k .csd ≡ c
-      → Hold rowWidths (rowNumbers (rowWith new (rowAt moved k)))
-  moved-holds k l e =
-      let same-row = row-by-rule b i (ruleWith new (ruleAt b i)) place k l in
-      rw same-row (row-holds k l (rw same-row at e))
+  only-rule : Only ofRules b moved
+  only-rule = only-stored ofRules b i (ruleWith new (ruleAt b i)) place
+
+  moved-fits : (k : ℕ) → k < rowPlaces → rowAt moved k .csd ≡ c → Fits (table ofRows) (rowWith new (rowAt moved k))
+  moved-fits k l e =
+      let same-row = only-rule .others ofRows (λ z. omega arith) k l in
+      subst (λ r. Fits (table ofRows) (rowWith new r)) (sym same-row) (row-fits k l (sym (ap (λ r. r .csd) same-row) ∙ e))
+
+  -- the rule has its new sequence
+  rule-moved : Leaves b moved c (E.withRules (change (isRule n o s) (E.ruleMoved new) (rulesOf c b)) (loneBook c b))
+  unfolding ruleOf
+  rule-moved = changed ofRules b i size place c low (isRule n o s) own hit once (ruleWith new (ruleAt b i)) (E.ruleMoved new) rule-fits high own refl
+
+  -- and then its rows
+  rows-moved : Leaves moved (reorderIn c n o s new b i) c (E.withRows (change (ofRule n o s) (E.rowMoved new) (rowsOf c moved)) (loneBook c moved))
+  unfolding reorderIn
+  rows-moved =
+      let z = only-rule .size ∙ size in
+      only-leaves ofRows moved (carryRows c n o s new moved rowPlaces) (carried-only c n o s new moved rowPlaces (omega arith)) c
+      (change (ofRule n o s) (E.rowMoved new) (rowsOf c moved))
+      (carried-placed c n o s new moved z moved-fits low high rowPlaces (omega arith))
+      (same-equal (rows-carried c n o s new moved z moved-fits))
+      (λ a l d. rows-kept c n o s new moved z moved-fits a d)
 
   pub reordered : Leaves b (reorderIn c n o s new b i) c (E.edited (loneBook c b) (M.reorder n o s new))
-  unfolding E.edited reorderIn ruleOf
+  unfolding E.edited
   reordered =
-      let r = ruleWith new (ruleAt b i) in
-      let z = length-rule b i r ∙ size in
-      record {
-        size = carried-length c n o s new moved rowPlaces ∙ length-rule b i r;
-        places = λ e. carried-placed c n o s new moved z moved-holds low high rowPlaces (omega arith) (rule-placed b i r place rule-holds size (of-one (ruleZero r) (r .csd) (rw own low) (rw own high)) e);
-        own = record {
-          types = same-equal (types-carried c n o s new moved c rowPlaces (omega arith) ∙ types-by-rule b i r place c);
-          rules = same-equal (rules-carried c n o s new moved c rowPlaces (omega arith) ∙ rules-changed b i c (isRule n o s) place size own hit once r (E.ruleMoved new) rule-holds own refl);
-          rows = same-equal (rows-carried c n o s new moved z moved-holds ∙ ap (change (ofRule n o s) (E.rowMoved new)) (rows-by-rule b i r place c));
-          periods = same-equal (periods-carried c n o s new moved c rowPlaces (omega arith) ∙ periods-by-rule b i r place c);
-        };
-        others = λ a u d k. record {
-          types = (types-carried c n o s new moved a rowPlaces (omega arith) ∙ types-by-rule b i r place a) k;
-          rules = (rules-carried c n o s new moved a rowPlaces (omega arith) ∙ rules-still b i r place rule-holds size a (λ f. d (sym own ∙ f)) (λ f. d (sym own ∙ f))) k;
-          rows = (rows-kept c n o s new moved z moved-holds a d ∙ rows-by-rule b i r place a) k;
-          periods = (periods-carried c n o s new moved a rowPlaces (omega arith) ∙ periods-by-rule b i r place a) k;
-        };
-      }
+      leaves-then b moved (reorderIn c n o s new b i) c _ _ _ rule-moved rows-moved
+      (with-same ofRows _ _ _ _
+      (same-equal (ap (change (ofRule n o s) (E.rowMoved new)) (list-other ofRules b moved only-rule ofRows (λ z. omega arith) c)))
+      (rule-moved .own))

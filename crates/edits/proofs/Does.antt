@@ -1,12 +1,12 @@
 -- What the stores and the edits show, from what the calls ensure.
 use Prim.Native.Nat.{ℕ, _≤_, _<_}
 use mathlib.Core.Path.{_≡_, ap, sym, _∙_}
-use mathlib.Core.Bool.{Bool, true, false}
+use mathlib.Core.Bool.{Bool, true, false, cond}
 use mathlib.Core.List.{List}
-use lib.Dec.{eqb}
+use lib.Dec.{eqb, ltb}
 use borrow.Author.Tests.{lt-ltb, le-ltb, eq-eqb, ne-eqb}
 use Rattle.meaning.specs.Keys.{ofRule}
-use Rattle.places.specs.Layout.{typePlaces, rulePlaces, rowPlaces, periodPlaces, putType, ruleAt, putRule, rowAt, putRow, zeroRow, putPeriod, typeAt, periodAt, zeroRule}
+use Rattle.places.specs.Layout.{rowPlaces, ruleAt, rowAt, putRow, zeroRow, typeAt, periodAt, zeroRule}
 use Rattle.places.specs.declared.RestrictionType.{RestrictionType}
 use Rattle.places.specs.declared.Rule.{Rule}
 use Rattle.places.specs.declared.Row.{Row}
@@ -25,38 +25,13 @@ use Rattle.book.specs.Places.{typePlace, rulePlace, rowPlace, periodPlace}
 use Rattle.edits.specs.Moves.{ruleWith, rowWith, carryRow, carryRows}
 use Rattle.edits.specs.Edit.{typeIn, ruleIn, rowIn, periodIn, freeType, freeRule, freeRow, freePeriod, typeEnded, periodEnded, storeType, storeRule, storeRow, storePeriod, endedType, endedPeriod, deletedRule, deletedRow, reorderedRule, editIn}
 
-module _ (b b′ : List ℕ) (i : ℕ) where
-  pub type-stored : (r : RestrictionType) → i < typePlaces → b′ ≡ putType b i r → b′ ≡ storeType b i r
-  unfolding storeType
-  type-stored r l e = rw (lt-ltb i typePlaces l) e
+-- a store where the place is one of n, and none where it is not
+module _ (b l : List ℕ) (i n : ℕ) where
+  pub stored : (b′ : List ℕ) → i < n → b′ ≡ l → b′ ≡ cond (ltb i n) l b
+  stored b′ h e = rw (lt-ltb i n h) e
 
-  pub type-unstored : (r : RestrictionType) → typePlaces ≤ i → b ≡ storeType b i r
-  unfolding storeType
-  type-unstored r l = rw (le-ltb i typePlaces l)
-
-  pub rule-stored : (r : Rule) → i < rulePlaces → b′ ≡ putRule b i r → b′ ≡ storeRule b i r
-  unfolding storeRule
-  rule-stored r l e = rw (lt-ltb i rulePlaces l) e
-
-  pub rule-unstored : (r : Rule) → rulePlaces ≤ i → b ≡ storeRule b i r
-  unfolding storeRule
-  rule-unstored r l = rw (le-ltb i rulePlaces l)
-
-  pub row-stored : (r : Row) → i < rowPlaces → b′ ≡ putRow b i r → b′ ≡ storeRow b i r
-  unfolding storeRow
-  row-stored r l e = rw (lt-ltb i rowPlaces l) e
-
-  pub row-unstored : (r : Row) → rowPlaces ≤ i → b ≡ storeRow b i r
-  unfolding storeRow
-  row-unstored r l = rw (le-ltb i rowPlaces l)
-
-  pub period-stored : (r : Period) → i < periodPlaces → b′ ≡ putPeriod b i r → b′ ≡ storePeriod b i r
-  unfolding storePeriod
-  period-stored r l e = rw (lt-ltb i periodPlaces l) e
-
-  pub period-unstored : (r : Period) → periodPlaces ≤ i → b ≡ storePeriod b i r
-  unfolding storePeriod
-  period-unstored r l = rw (le-ltb i periodPlaces l)
+  pub unstored : n ≤ i → b ≡ cond (ltb i n) l b
+  unstored h = rw (le-ltb i n h)
 
 -- ---- O: a row is carried along if it is the depository's and of the rule
 

@@ -1,18 +1,20 @@
 -- What the nine edits leave: one theorem, over the command.
 use Prim.Native.Nat.{ℕ, _≤_, _<_}
-use mathlib.Core.Path.{_≡_, refl}
-use mathlib.Core.Bool.{true, false≢true}
-use mathlib.Core.List.{List}
+use mathlib.Core.Path.{_≡_, refl, ap}
+use mathlib.Core.Bool.{Bool, true, false≢true}
+use mathlib.Core.List.{List, _∷_}
 use native.Mathlib.Omega.{arith}
 use lib.ListN.{length}
 use borrow.Author.Tests.{lt-ltb, leb-false, not-false}
-use Rattle.tables.specs.Count.{has, every}
+use Rattle.tables.specs.Count.{count, has, every, without, change}
+use Rattle.tables.specs.Table.{placeOf, store, vacant, Fits}
 use Rattle.tables.proofs.Lone.{every-at}
 use Rattle.tables.proofs.Lists.{has-true}
+use Rattle.tables.proofs.Listed.{found}
 use Rattle.meaning.specs.Records as M
 use Rattle.meaning.specs.Keys.{isType, isRule, isRow, isPeriod}
 use Rattle.meaning.specs.Refusals.{conditions, refusal}
-use Rattle.meaning.specs.Edits.{edited, fits}
+use Rattle.meaning.specs.Edits.{edited, fits, typeUntil, periodUntil}
 use Rattle.meaning.specs.Lone.{isQuestion}
 use Rattle.meaning.specs.Forms.{holds, day, sequenceForm}
 use Rattle.meaning.specs.Sound.{typeFits, ruleFits, rowFits, periodFits}
@@ -21,73 +23,94 @@ use Rattle.meaning.proofs.Good.{Good, good-of-sound, period-once}
 use Rattle.places.specs.Layout.{typePlaces, rulePlaces, rowPlaces, periodPlaces, typeAt, ruleAt, rowAt, periodAt}
 use Rattle.records.specs.Said.{typeOf, ruleOf, rowOf, periodOf}
 use Rattle.records.specs.Asks.{typeMeets, ruleMeets, rowMeets, periodMeets}
-use Rattle.records.specs.declared.TypeAsk.the-variants as Types
-use Rattle.records.specs.declared.RuleAsk.the-variants as Rules
-use Rattle.records.specs.declared.RowAsk.the-variants as Rows
-use Rattle.records.specs.declared.PeriodAsk.the-variants as Periods
-use Rattle.book.specs.Places.{typePlace, rulePlace, rowPlace, periodPlace}
-use Rattle.book.specs.Lone.{typesOf, rulesOf, rowsOf, periodsOf, loneBook}
-use Rattle.edits.specs.Leaves.{Leaves}
+use Rattle.records.specs.Tables.{TableName, ofTypes, ofRules, ofRows, ofPeriods, Place, Said, table}
 use Rattle.records.proofs.Holds.{type-hold, rule-hold, row-hold, period-hold}
+use Rattle.records.proofs.Tables.{row-whole}
+use Rattle.book.specs.Places.{typeHit, ruleHit, rowHit, periodHit, typePlace, rulePlace, rowPlace, periodPlace}
+use Rattle.book.specs.Lone.{typesOf, rulesOf, rowsOf, periodsOf, loneBook, list}
 use Rattle.book.proofs.Facts.{GoodBook}
-use Rattle.book.proofs.Found.{found-type, found-rule, found-row, found-period, free-type, free-rule, free-row, free-period}
+use Rattle.book.proofs.Found.{free-in}
+use Rattle.book.proofs.Lists.{lone-list, book-same, withList}
+use Rattle.edits.specs.Leaves.{Leaves}
 use Rattle.edits.specs.Moves.{reorderIn}
-use Rattle.edits.specs.Edit.{typeIn, ruleIn, rowIn, periodIn, noRow, freeType, freeRule, freeRow, freePeriod, storeType, storeRule, storeRow, storePeriod, endedType, endedPeriod, deletedRule, deletedRow, reorderedRule, editIn}
-use Rattle.edits.proofs.Widths.{row-ten, type-ended-holds, period-ended-holds, rule-with-holds, row-with-holds}
-use Rattle.edits.proofs.Edits.{rule-deleted, row-deleted, type-ended, period-ended, type-added, rule-added, row-added, period-added}
+use Rattle.edits.specs.Edit.{typeIn, ruleIn, rowIn, periodIn, typeEnded, periodEnded, storeType, storeRule, storeRow, storePeriod, endedType, endedPeriod, deletedRule, deletedRow, reorderedRule, editIn}
+use Rattle.edits.proofs.Widths.{row-ten, type-ended-fits, period-ended-fits, rule-with-fits, row-with-fits}
+use Rattle.edits.proofs.Edits.{added, deleted, changed}
 use Rattle.edits.proofs.Carried.{ten-values, reordered}
 
 module _ (b : List ℕ) (c : ℕ) (g : GoodBook b) (low : 1 ≤ c) (high : c ≤ 8) where
   own : Good (loneBook c b)
   own = good-of-sound (loneBook c b) (g .lone c low high)
 
+  -- ---- in any table: a record more at a free place, and the one record as asked taken out or changed
+
+  more-left : (k : TableName) (p : Said k → Bool) → ((x : Said k) → p x ≡ true) → (r : Place k) → Fits (table k) r
+      → table k .csd r ≡ c → length (list k (loneBook c b)) < table k .quota
+      → Leaves b (store (table k) b (placeOf (table k) b 0 p) r) c (withList k (table k .rec r ∷ list k (loneBook c b)) (loneBook c b))
+  more-left k p any r fits o l =
+      let e = free-in k b g p any c low high l in
+      rw (lt-ltb (placeOf (table k) b 0 p) (table k .places) (e .0))
+      (added k b (placeOf (table k) b 0 p) (g .size) (e .0) r fits c o (e .1) low high)
+
+  module _ (k : TableName) (q : Said k → Bool) (h : has q (list k (loneBook c b)) ≡ true) (once : count q (list k (loneBook c b)) ≤ 1) where
+    abbrev where-it-stands : ℕ
+    where-it-stands = placeOf (table k) b c q
+
+    stands : (where-it-stands < table k .places) × (table k .csd (table k .at b where-it-stands) ≡ c) × (q (table k .rec (table k .at b where-it-stands)) ≡ true)
+    stands =
+        found (table k) b c q
+        (omega (arith, has-true q (list k (loneBook c b)) h, ap (count q) (lone-list k c b)))
+
+    fewer-left : Leaves b (store (table k) b where-it-stands (vacant (table k))) c (withList k (without q (list k (loneBook c b))) (loneBook c b))
+    fewer-left =
+        rw (lt-ltb where-it-stands (table k .places) (stands .0))
+        (deleted k b where-it-stands (g .size) (stands .0) c low q (stands .1) (stands .2) once)
+
+    other-left : (r : Place k) (f : Said k → Said k) → Fits (table k) r → table k .csd r ≡ c
+        → table k .rec r ≡ f (table k .rec (table k .at b where-it-stands))
+        → Leaves b (store (table k) b where-it-stands r) c (withList k (change q f (list k (loneBook c b))) (loneBook c b))
+    other-left r f fits o e =
+        rw (lt-ltb where-it-stands (table k .places) (stands .0))
+        (changed k b where-it-stands (g .size) (stands .0) c low q (stands .1) (stands .2) once r f fits high o e)
+
   -- ---- T, R, M, A
 
   leaves-type : (d : ℕ) (t : M.TypeRecord) → typeFits t ≡ true → length (typesOf c b) < M.typeQuota
       → Leaves b (editIn b c (M.addType d t)) c (edited (loneBook c b) (M.addType d t))
-  unfolding editIn storeType typeOf
+  unfolding editIn edited storeType typeOf typePlace typeHit typeMeets
   leaves-type d t f l =
-      let e = free-type b g c low high l in
-      rw (lt-ltb (freeType b) typePlaces (e .0)) (type-added b (freeType b) (g .size) d (typeIn c t) (e .0) (e .1) low high (type-hold (typeIn c t) high f))
+      more-left ofTypes (λ x. true) (λ x. refl) (typeIn c t) (record { holds = type-hold (typeIn c t) high f; whole = refl }) refl l
 
   leaves-rule : (d : ℕ) (r : M.Rule) → ruleFits r ≡ true → length (rulesOf c b) < M.ruleQuota
       → Leaves b (editIn b c (M.addRule d r)) c (edited (loneBook c b) (M.addRule d r))
-  unfolding editIn storeRule ruleOf
+  unfolding editIn edited storeRule ruleOf rulePlace ruleHit ruleMeets
   leaves-rule d r f l =
-      let e = free-rule b noRow g c low high l in
-      rw (lt-ltb (freeRule b) rulePlaces (e .0)) (rule-added b (freeRule b) (g .size) d (ruleIn c r) (e .0) (e .1) low high (rule-hold (ruleIn c r) high f))
+      more-left ofRules (λ x. true) (λ x. refl) (ruleIn c r) (record { holds = rule-hold (ruleIn c r) high f; whole = refl }) refl l
 
   leaves-row : (w : M.Row) → rowFits w ≡ true → length (rowsOf c b) < M.rowQuota
       → Leaves b (editIn b c (M.addRow w)) c (edited (loneBook c b) (M.addRow w))
-  unfolding editIn storeRow rowOf
+  unfolding editIn edited storeRow rowOf rowPlace rowHit rowMeets
   leaves-row w f l =
-      let e = free-row b noRow g c low high l in
-      rw (lt-ltb (freeRow b) rowPlaces (e .0)) (row-added b (freeRow b) (g .size) (rowIn c w) (e .0) (e .1) low high (row-ten w f) (row-hold (rowIn c w) high (row-ten w f) f))
+      more-left ofRows (λ x. true) (λ x. refl) (rowIn c w)
+      (record { holds = row-hold (rowIn c w) high (row-ten w f) f; whole = row-whole (rowIn c w) (row-ten w f) }) refl l
 
   leaves-period : (d : ℕ) (p : M.Period) → periodFits p ≡ true → length (periodsOf c b) < M.periodQuota
       → Leaves b (editIn b c (M.addPeriod d p)) c (edited (loneBook c b) (M.addPeriod d p))
-  unfolding editIn storePeriod periodOf
+  unfolding editIn edited storePeriod periodOf periodPlace periodHit periodMeets
   leaves-period d p f l =
-      let e = free-period b g c low high l in
-      rw (lt-ltb (freePeriod b) periodPlaces (e .0)) (period-added b (freePeriod b) (g .size) d (periodIn c p) (e .0) (e .1) low high (period-hold (periodIn c p) high f))
+      more-left ofPeriods (λ x. true) (λ x. refl) (periodIn c p) (record { holds = period-hold (periodIn c p) high f; whole = refl }) refl l
 
   -- ---- D, N
 
   leaves-rule-out : (n o s : ℕ) → has (isRule n o s) (rulesOf c b) ≡ true
       → Leaves b (editIn b c (M.deleteRule n o s)) c (edited (loneBook c b) (M.deleteRule n o s))
-  unfolding editIn deletedRule storeRule ruleMeets
-  leaves-rule-out n o s h =
-      let f = found-rule b c (Rules.Named n o s) noRow (has-true (ruleMeets (Rules.Named n o s) noRow) (rulesOf c b) h) in
-      rw (lt-ltb (rulePlace b c (Rules.Named n o s) noRow) rulePlaces (f .0))
-      (rule-deleted b (rulePlace b c (Rules.Named n o s) noRow) c (g .size) low n o s (f .0) (f .1) (f .2) (own .ruleOnce n o s))
+  unfolding editIn edited deletedRule storeRule rulePlace ruleHit ruleMeets
+  leaves-rule-out n o s h = fewer-left ofRules (isRule n o s) h (own .ruleOnce n o s)
 
   leaves-row-out : (w : M.Row) → has (isRow w) (rowsOf c b) ≡ true
       → Leaves b (editIn b c (M.deleteRow w)) c (edited (loneBook c b) (M.deleteRow w))
-  unfolding editIn deletedRow storeRow rowMeets
-  leaves-row-out w h =
-      let f = found-row b c Rows.Same w (has-true (rowMeets Rows.Same w) (rowsOf c b) h) in
-      rw (lt-ltb (rowPlace b c Rows.Same w) rowPlaces (f .0))
-      (row-deleted b (rowPlace b c Rows.Same w) c (g .size) low w (f .0) (f .1) (f .2) (own .rowOnce w))
+  unfolding editIn edited deletedRow storeRow rowPlace rowHit rowMeets
+  leaves-row-out w h = fewer-left ofRows (isRow w) h (own .rowOnce w)
 
   -- ---- E, Z
 
@@ -109,37 +132,38 @@ module _ (b : List ℕ) (c : ℕ) (g : GoodBook b) (low : 1 ≤ c) (high : c ≤
 
   leaves-type-end : (d n o last : ℕ) → holds day last ≡ true → has (isType n o) (typesOf c b) ≡ true
       → Leaves b (editIn b c (M.endType d n o last)) c (edited (loneBook c b) (M.endType d n o last))
-  unfolding editIn endedType storeType typeMeets
+  unfolding editIn edited endedType storeType typePlace typeHit typeMeets typeOf
   leaves-type-end d n o last e h =
-      let i = typePlace b c (Types.Named n o) in
-      let f = found-type b c (Types.Named n o) (has-true (typeMeets (Types.Named n o)) (typesOf c b) h) in
-      rw (lt-ltb i typePlaces (f .0))
-      (type-ended b i c (g .size) low high d n o last (f .0) (f .1) (f .2) (own .typeOnce n o)
-      (type-ended-holds last (typeAt b i) (omega (arith, f .1)) (type-fits i (f .0) (f .1)) e))
+      let once = own .typeOnce n o in
+      let i = placeOf (table ofTypes) b c (isType n o) in
+      let f = stands ofTypes (isType n o) h once in
+      other-left ofTypes (isType n o) h once (typeEnded last (typeAt b i)) (typeUntil last)
+      (type-ended-fits last (typeAt b i) (omega (arith, f .1)) (type-fits i (f .0) (f .1)) e) (f .1) refl
 
   leaves-period-end : (d κ n o first last : ℕ) → holds day last ≡ true
       → has (isPeriod κ n o first) (periodsOf c b) ≡ true
       → Leaves b (editIn b c (M.endPeriod d κ n o first last)) c (edited (loneBook c b) (M.endPeriod d κ n o first last))
-  unfolding editIn endedPeriod storePeriod periodMeets
+  unfolding editIn edited endedPeriod storePeriod periodPlace periodHit periodMeets periodOf
   leaves-period-end d κ n o first last e h =
-      let i = periodPlace b c (Periods.Named κ n o first) in
-      let f = found-period b c (Periods.Named κ n o first) (has-true (periodMeets (Periods.Named κ n o first)) (periodsOf c b) h) in
-      rw (lt-ltb i periodPlaces (f .0))
-      (period-ended b i c (g .size) low high d κ n o first last (f .0) (f .1) (f .2) (period-once (loneBook c b) own κ n o first)
-      (period-ended-holds last (periodAt b i) (omega (arith, f .1)) (period-fits i (f .0) (f .1)) e))
+      let once = period-once (loneBook c b) own κ n o first in
+      let i = placeOf (table ofPeriods) b c (isPeriod κ n o first) in
+      let f = stands ofPeriods (isPeriod κ n o first) h once in
+      other-left ofPeriods (isPeriod κ n o first) h once (periodEnded last (periodAt b i)) (periodUntil last)
+      (period-ended-fits last (periodAt b i) (omega (arith, f .1)) (period-fits i (f .0) (f .1)) e) (f .1) refl
 
   -- ---- O
 
   leaves-reorder : (n o s new : ℕ) → holds sequenceForm new ≡ true → has (isRule n o s) (rulesOf c b) ≡ true
       → Leaves b (editIn b c (M.reorder n o s new)) c (edited (loneBook c b) (M.reorder n o s new))
-  unfolding editIn reorderedRule storeRule ruleMeets reorderIn
+  unfolding editIn reorderedRule storeRule rulePlace ruleHit ruleMeets reorderIn
   leaves-reorder n o s new e h =
-      let i = rulePlace b c (Rules.Named n o s) noRow in
-      let f = found-rule b c (Rules.Named n o s) noRow (has-true (ruleMeets (Rules.Named n o s) noRow) (rulesOf c b) h) in
+      let once = own .ruleOnce n o s in
+      let i = placeOf (table ofRules) b c (isRule n o s) in
+      let f = stands ofRules (isRule n o s) h once in
       rw (lt-ltb i rulePlaces (f .0))
-      (reordered b i c n o s new (g .size) low high (f .0) (f .1) (f .2) (own .ruleOnce n o s)
-      (rule-with-holds new (ruleAt b i) (omega (arith, f .1)) (rule-fits i (f .0) (f .1)) e)
-      (λ k l z. row-with-holds new (rowAt b k) (omega (arith, z)) (ten-values c n o s new b k) (row-fits k l z) e))
+      (reordered b i c n o s new (g .size) low high (f .0) (f .1) (f .2) once
+      (rule-with-fits new (ruleAt b i) (omega (arith, f .1)) (rule-fits i (f .0) (f .1)) e)
+      (λ k l z. row-with-fits new (rowAt b k) (omega (arith, z)) (ten-values c n o s new b k) (row-fits k l z) e))
 
   leaves-nothing : (q : M.Question) → Leaves b (editIn b c (M.ask q)) c (edited (loneBook c b) (M.ask q))
   unfolding editIn edited
@@ -147,7 +171,7 @@ module _ (b : List ℕ) (c : ℕ) (g : GoodBook b) (low : 1 ≤ c) (high : c ≤
       record {
         size = refl;
         places = λ e. e;
-        own = record { types = λ p. refl; rules = λ p. refl; rows = λ p. refl; periods = λ p. refl };
+        own = book-same (loneBook c b) (loneBook c b) (λ k p. refl);
         others = λ a l d. refl;
       }
 

@@ -2,6 +2,6 @@ pub mod Edits
 pub mod Carried
 pub mod Widths
 pub mod Leave
-pub mod Placed
+pub mod Alone
 pub mod Stay
 pub mod Does

@@ -2,16 +2,16 @@
 -- The papers leave the place of a record free: a record more goes to a place that is free, one that is named is changed
 -- where it stands.
 use Prim.Native.Nat.{ℕ}
-use mathlib.Core.Bool.{cond}
 use mathlib.Core.List.{List}
-use lib.Dec.{ltb}
+use Rattle.tables.specs.Table.{store}
 use Rattle.meaning.specs.Records as M
-use Rattle.places.specs.Layout.{typePlaces, typeAt, putType, rulePlaces, ruleAt, putRule, zeroRule, rowPlaces, putRow, zeroRow, periodPlaces, periodAt, putPeriod}
+use Rattle.places.specs.Layout.{typeAt, ruleAt, zeroRule, rowPlaces, zeroRow, periodAt}
 use Rattle.places.specs.declared.RestrictionType.{RestrictionType}
 use Rattle.places.specs.declared.Rule.{Rule}
 use Rattle.places.specs.declared.Row.{Row}
 use Rattle.places.specs.declared.Period.{Period}
 use Rattle.records.specs.Said.{rowOf}
+use Rattle.records.specs.Tables.{ofTypes, ofRules, ofRows, ofPeriods, table}
 use Rattle.records.specs.declared.TypeAsk.the-variants as Types
 use Rattle.records.specs.declared.RuleAsk.the-variants as Rules
 use Rattle.records.specs.declared.RowAsk.the-variants as Rows
@@ -71,16 +71,16 @@ freePeriod b = periodPlace b 0 Periods.Any
 -- ---- stores: nothing where there is no place
 
 unfoldable pub storeType : List ℕ → ℕ → RestrictionType → List ℕ
-storeType b i r = cond (ltb i typePlaces) (putType b i r) b
+storeType b i r = store (table ofTypes) b i r
 
 unfoldable pub storeRule : List ℕ → ℕ → Rule → List ℕ
-storeRule b i r = cond (ltb i rulePlaces) (putRule b i r) b
+storeRule b i r = store (table ofRules) b i r
 
 unfoldable pub storeRow : List ℕ → ℕ → Row → List ℕ
-storeRow b i r = cond (ltb i rowPlaces) (putRow b i r) b
+storeRow b i r = store (table ofRows) b i r
 
 unfoldable pub storePeriod : List ℕ → ℕ → Period → List ℕ
-storePeriod b i r = cond (ltb i periodPlaces) (putPeriod b i r) b
+storePeriod b i r = store (table ofPeriods) b i r
 
 -- ---- the edits
 

@@ -3,7 +3,7 @@ use Prim.Native.Nat.{ℕ, _≤_}
 use mathlib.Core.Path.{_≡_, refl, ap, sym, _∙_}
 use mathlib.Core.Bool.{true, false}
 use mathlib.Core.List.{List, _∷_}
-use Rattle.tables.specs.Count.{count, keep}
+use Rattle.tables.specs.Count.{keep}
 use Rattle.tables.proofs.Counts.{cases}
 use Rattle.meaning.specs.Records as M
 use Rattle.meaning.specs.SameBook.{SameBook}
@@ -14,17 +14,9 @@ use Rattle.meaning.proofs.Names.{names-depository}
 use Rattle.book.specs.Lone.{loneBook}
 use Rattle.book.specs.Sound.{sound}
 use Rattle.book.proofs.NoRecords.{emptied-sound, emptied-lone}
+use Rattle.book.proofs.SameBooks.{same-books, same-then}
 use Rattle.precheck.specs.Promise.{answerIn, loneAfter}
 use Rattle.precheck.specs.Alone.{Run, done, sent, answersTo, OneAlone, TwoRuns}
-
-same-trans : (b c d : M.Book) → SameBook b c → SameBook c d → SameBook b d
-same-trans b c d s t =
-    record {
-      types = λ p. s .types p ∙ t .types p;
-      rules = λ p. s .rules p ∙ t .rules p;
-      rows = λ p. s .rows p ∙ t .rows p;
-      periods = λ p. s .periods p ∙ t .periods p;
-    }
 
 module _ (a : ℕ) (low : 1 ≤ a) (high : a ≤ 8) where
   -- what the promise says where the line names a, and where it does not
@@ -54,21 +46,15 @@ module _ (a : ℕ) (low : 1 ≤ a) (high : a ≤ 8) where
       let u = step-same (loneBook a b) m h line in
       let d = names-depository a line low high e in
       let first : x ≡ step m line .answer = t .answered ∙ shared-answer b line d s ∙ u .answer in
-      let rest = from r (step m line .book) (t .stays s) (same-trans (loneBook a b′) (step (loneBook a b) line .book) (step m line .book) (named-after b b′ line e (t .records s a low high)) (u .book)) in
+      let rest = from r (step m line .book) (t .stays s) (same-then (loneBook a b′) (step (loneBook a b) line .book) (step m line .book) (named-after b b′ line e (t .records s a low high)) (u .book)) in
       rw (e, first) (ap (_∷_ (step m line .answer)) rest))
-      (λ e. rw e (from r m (t .stays s) (same-trans (loneBook a b′) (loneBook a b) m (other-after b b′ line e (t .records s a low high)) h)))
+      (λ e. rw e (from r m (t .stays s) (same-then (loneBook a b′) (loneBook a b) m (other-after b b′ line e (t .records s a low high)) h)))
 
 -- Demand 3.
 pub one-alone : OneAlone
 unfolding loneAnswers answers
 one-alone lent book e lines as′ r a low high =
-    from a low high r M.empty (emptied-sound lent book e)
-    (record {
-      types = λ p. ap (λ m. count p (m .types)) (emptied-lone lent book e a low);
-      rules = λ p. ap (λ m. count p (m .rules)) (emptied-lone lent book e a low);
-      rows = λ p. ap (λ m. count p (m .rows)) (emptied-lone lent book e a low);
-      periods = λ p. ap (λ m. count p (m .periods)) (emptied-lone lent book e a low);
-    })
+    from a low high r M.empty (emptied-sound lent book e) (same-books (emptied-lone lent book e a low))
 
 pub two-runs : TwoRuns
 unfolding loneAnswers

@@ -29,6 +29,7 @@ use Rattle.commands.proofs.Decoded.{letter-for}
 use Rattle.commands.proofs.Narrow.{Narrow, asOn, asMeant, asked-coded, question-coded, question-same, narrow-read}
 use Rattle.book.specs.Lone.{loneBook}
 use Rattle.book.specs.Sound.{sound}
+use Rattle.book.proofs.SameBooks.{same-books}
 use Rattle.edits.specs.Edit.{editIn}
 use Rattle.edits.proofs.Leave.{question-left}
 use Rattle.edits.proofs.Stay.{sound-lone, edit-left, edit-sound}
@@ -97,7 +98,7 @@ reply-edit m k = none-replied m (questionIn k)
 -- ---- the promise, by what is read
 
 same-book : (m : M.Book) → SameBook m m
-same-book m = record { types = λ p. refl; rules = λ p. refl; rows = λ p. refl; periods = λ p. refl }
+same-book m = same-books refl
 
 pub submitted-unsound : (b line : List ℕ) (t : Bool) (x : Answer) → t ≡ sound b → not t ≡ true → x ≡ Refused 1
     → Submitted b line x b

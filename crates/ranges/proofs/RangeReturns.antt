@@ -9,7 +9,7 @@ use Rattle.tables.specs.Count.{every}
 use Rattle.meaning.specs.Fields.{within}
 use Rattle.meaning.specs.Forms.{isDay, code, holds, holdsAll, optional, upTo, tenValues}
 use Rattle.meaning.specs.Sound.{daysFit, keyFits, typeFits, ruleFits, rowFits, periodFits}
-use Rattle.places.proofs.Stores.{ten}
+use Rattle.places.proofs.TenValues.{ten}
 use Rattle.places.specs.declared.RestrictionType.{RestrictionType}
 use Rattle.places.specs.declared.Rule.{Rule}
 use Rattle.places.specs.declared.Row.{Row}

@@ -1,5 +1,5 @@
 -- A record in its range, of a depository, fits the widths of its place, so that it reads back once stored
--- (`places/proofs/Stores`).
+-- (`tables/proofs/Stored`).
 use Prim.Native.Nat.{ℕ, _/_, _≤_, _<_}
 use mathlib.Core.Path.{_≡_, ap, _∙_}
 use mathlib.Core.Bool.{true}
@@ -17,7 +17,7 @@ use Rattle.places.specs.declared.RestrictionType.{RestrictionType}
 use Rattle.places.specs.declared.Rule.{Rule}
 use Rattle.places.specs.declared.Row.{Row}
 use Rattle.places.specs.declared.Period.{Period}
-use Rattle.places.proofs.Stores.{ten}
+use Rattle.places.proofs.TenValues.{ten}
 use Rattle.records.specs.Said.{typeOf, ruleOf, rowOf, periodOf}
 
 pub most : (m n : ℕ) → within 1 m n ≡ true → n ≤ m

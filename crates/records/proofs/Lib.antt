@@ -5,3 +5,5 @@ pub mod Filled
 pub mod Meets
 pub mod Nobody
 pub mod Holds
+pub mod TableFacts
+pub mod Tables

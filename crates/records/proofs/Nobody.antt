@@ -1,4 +1,5 @@
 -- A free place is nobody's.
+-- Written by tools/values.py: change that, then run tools/generate.
 use mathlib.Core.Path.{_≡_}
 use mathlib.Core.Bool.{true}
 use borrow.Author.Tests.{eqb-true}

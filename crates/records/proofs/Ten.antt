@@ -7,7 +7,7 @@ use native.Mathlib.Omega.{arith}
 use lib.Dec.{ltb}
 use lib.ListN.{length, getD}
 use Rattle.tables.specs.Count.{bit, count}
-use Rattle.places.proofs.Stores.{ten}
+use Rattle.places.proofs.TenValues.{ten}
 use Rattle.records.specs.Criteria.{filledCount}
 
 abbrev explicit : List ℕ → List ℕ

@@ -1,4 +1,5 @@
 -- A free place is all zero (document 01, 'Records'): each of its numbers is 0. Assumes nothing.
+-- Written by tools/values.py: change that, then run tools/generate.
 use Prim.Native.Nat.{ℕ}
 use mathlib.Core.Bool.{Bool}
 use mathlib.Core.List.{List}

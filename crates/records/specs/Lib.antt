@@ -3,3 +3,4 @@ pub mod Criteria
 pub mod Values
 pub mod Asks
 pub mod Free
+pub mod Tables

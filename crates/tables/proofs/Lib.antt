@@ -13,3 +13,6 @@ pub mod Match
 pub mod Walk
 pub mod Entries
 pub mod Padding
+pub mod Stored
+pub mod Listed
+pub mod InOrder

@@ -6,7 +6,7 @@ use native.Mathlib.Omega.{arith}
 use borrow.Author.Needs.{needs}
 use Rattle.places.specs.Layout.{rowPlaces}
 use Rattle.edits.specs.Moves.{carryRows}
-use Rattle.edits.proofs.Carried.{carried-length, carry-none, carry-next}
+use Rattle.edits.proofs.Carried.{carried-only, carry-none, carry-next}
 use Rattle.edits.proofs.carry_rows.Statement.{statement}
 use Rattle.edits.proofs.carry_rows.Tie as tie
 
@@ -28,5 +28,5 @@ carry-rows-spec =
     (λ c. omega arith)
     (λ c. omega arith)
     (λ c. (omega arith, search carry-next))
-    (λ c. ap length (c .before .loop .inv .1) ∙ carried-length _ _ _ _ _ _ _)
+    (λ c. ap length (c .before .loop .inv .1) ∙ carried-only _ _ _ _ _ _ _ (c .before .loop .inv .0) .size)
     (λ c. let e : c .before .loop .i ≡ rowPlaces = omega arith in rw e at (c .before .loop .inv .1)))
