@@ -1,4 +1,3 @@
-pub mod Texts
 pub mod Tables
 pub mod SetLines
 pub mod Sizes

@@ -1,83 +1,43 @@
 -- What the writer of each kind of line has written is the meaning's line.
 use Prim.Native.Nat.{ℕ, _+_, _-_, _≤_, _<_}
 use mathlib.Core.Path.{_≡_, refl, ap, sym, _∙_}
-use mathlib.Core.List.{List, [], _∷_, _++_, map, append-assoc, append-nil}
+use mathlib.Core.List.{List, [], _∷_, _++_, map}
 use native.Mathlib.Omega.{arith}
 use lib.ListN.{length, getD, length-map, List·getD-append, List·getD-eq-default}
 use lib.Seq.{getD-append-add}
-use Rattle.meaning.specs.Text.{numeral}
-use Rattle.meaning.specs.Forms.{signForm, tenValues, shapeT, shapeR, shapeM}
-use Rattle.meaning.specs.Printing.{listed}
-use Rattle.meaning.specs.Writing.{write, writeAll, written}
-use Rattle.meaning.specs.Keler.{kelerTypes, kelerRules, kelerRows, kelerLines}
 use Rattle.tables.proofs.Entries.{map-entry}
+use Rattle.meaning.specs.Forms.{shapeT, shapeR, shapeM, shapes}
+use Rattle.meaning.specs.Writing.{written}
+use Rattle.meaning.specs.Keler.{kelerTypes, kelerRules, row, kelerRows, kelerLines}
+use Rattle.shapes.specs.Table.{shapeAt}
+use Rattle.writing.specs.Written.{nothing, addedAll, writtenAs}
+use Rattle.writing.specs.declared.bytes.Written.{Written}
 use Rattle.keler.specs.Tables.{rowNumber}
-use Rattle.keler.specs.Written.{nothing, addedAll, writtenAs}
-use Rattle.keler.specs.Lines.{signText, wordsText, codesText, typeLine, ruleLine, rowLine}
-use Rattle.keler.specs.declared.writing.Written.{Written}
-use Rattle.keler.proofs.Texts.{then-as}
-use Rattle.keler.proofs.Tables.{type-entry, rule-entry, rule-sign, row-entry, row-values}
-
--- ---- the texts
-
-module _ (csd day a b c : ℕ) where
-  -- the letter, the csd, the day, and the three numbers that every entry begins with
-  head : ℕ → List ℕ
-  head letter = (letter ∷ listed (csd ∷ day ∷ [])) ++ listed (a ∷ b ∷ c ∷ [])
-
-  head-text : (letter : ℕ) (tail : List ℕ) → head letter ++ tail
-      ≡ letter ∷ 44 ∷ (numeral csd ++ (44 ∷ (numeral day ++ (44 ∷ (numeral a ++ (44 ∷ (numeral b ++ (44 ∷ (numeral c ++ tail)))))))))
-  unfolding head listed
-  head-text letter tail = simp (append-assoc, append-nil)
-
-  type-text : (first last : ℕ) {e : List ℕ} → e ≡ a ∷ b ∷ c ∷ [] → head 84 ++ listed (first ∷ last ∷ []) ≡ written shapeT (csd ∷ day ∷ (e ++ (first ∷ last ∷ [])))
-  unfolding listed written writeAll shapeT write
-  type-text first last e = rw e (head-text 84 (listed (first ∷ last ∷ [])))
-
-  rule-text : (first last : ℕ) {s k : ℕ} {e : List ℕ} → e ≡ a ∷ b ∷ c ∷ s ∷ k ∷ [] → signText s ≡ 44 ∷ write signForm s
-      → ((head 82 ++ signText s) ++ (44 ∷ numeral k)) ++ listed (first ∷ last ∷ []) ≡ written shapeR (csd ∷ day ∷ (e ++ (first ∷ last ∷ [])))
-  unfolding listed written writeAll shapeR write
-  rule-text first last {s} {k} e g =
-      let days = listed (first ∷ last ∷ []) in
-      append-assoc (head 82 ++ signText s) (44 ∷ numeral k) days
-      ∙ append-assoc (head 82) (signText s) ((44 ∷ numeral k) ++ days)
-      ∙ rw (e, g) (head-text 82 ((44 ∷ write signForm s) ++ ((44 ∷ numeral k) ++ days)))
-
-  row-text : {e values : List ℕ} (words codes : List ℕ) → e ≡ a ∷ b ∷ c ∷ values → words ++ codes ≡ writeAll tenValues values
-      → (head 77 ++ words) ++ codes ≡ written shapeM (csd ∷ day ∷ e)
-  unfolding written writeAll shapeM write
-  row-text {values = values} words codes e v =
-      append-assoc (head 77) words codes ∙ rw (e, v) (head-text 77 (writeAll tenValues values))
+use Rattle.keler.specs.Lines.{typeLine, ruleLine, rowLine}
+use Rattle.keler.proofs.Tables.{type-entry, rule-entry, row-entry}
 
 -- ---- a line of each kind
 
-module _ {w v r : Written} (n csd day : ℕ) {a b c : ℕ} where
-  pub typed : (first last : ℕ) → r ≡ addedAll v (listed (first ∷ last ∷ [])) → v ≡ addedAll w (listed (a ∷ b ∷ c ∷ []))
+module _ {r : Written} (n csd day : ℕ) {a b c : ℕ} where
+  pub typed : (first last : ℕ) → r ≡ writtenAs (written (shapeAt 0) (csd ∷ day ∷ a ∷ b ∷ c ∷ first ∷ last ∷ []))
       → c ≡ getD (getD kelerTypes n []) 2 0 → b ≡ getD (getD kelerTypes n []) 1 0 → a ≡ getD (getD kelerTypes n []) 0 0
-      → w ≡ writtenAs (84 ∷ listed (csd ∷ day ∷ [])) → n < 10 → r ≡ writtenAs (typeLine n csd day first last)
-  unfolding typeLine head
-  typed first last g f z y x e h = rw (g, f, e, then-as, then-as) (ap writtenAs (type-text csd day a b c first last (type-entry n x y z h)))
+      → n < 10 → r ≡ writtenAs (typeLine n csd day first last)
+  unfolding typeLine shapes
+  typed first last e z y x h = rw (type-entry n x y z h) e
 
-  pub ruled : {u s : Written} {sign criteria : ℕ} (first last : ℕ) → r ≡ addedAll u (listed (first ∷ last ∷ [])) → u ≡ addedAll s (44 ∷ numeral criteria)
-      → criteria ≡ getD (getD kelerRules n []) 4 0 → s ≡ addedAll v (signText sign) → sign ≡ getD (getD kelerRules n []) 3 0
-      → v ≡ addedAll w (listed (a ∷ b ∷ c ∷ []))
+  pub ruled : {s k : ℕ} (first last : ℕ) → r ≡ writtenAs (written (shapeAt 2) (csd ∷ day ∷ a ∷ b ∷ c ∷ s ∷ k ∷ first ∷ last ∷ []))
+      → k ≡ getD (getD kelerRules n []) 4 0 → s ≡ getD (getD kelerRules n []) 3 0
       → c ≡ getD (getD kelerRules n []) 2 0 → b ≡ getD (getD kelerRules n []) 1 0 → a ≡ getD (getD kelerRules n []) 0 0
-      → w ≡ writtenAs (82 ∷ listed (csd ∷ day ∷ [])) → n < 13 → r ≡ writtenAs (ruleLine n csd day first last)
-  unfolding ruleLine head
-  ruled first last i g p f q e z y x d h =
-      rw (i, g, f, e, d, then-as, then-as, then-as, then-as)
-      (ap writtenAs (rule-text csd day a b c first last (rule-entry n x y z q p h) (rule-sign n q h)))
+      → n < 13 → r ≡ writtenAs (ruleLine n csd day first last)
+  unfolding ruleLine shapes
+  ruled first last e q p z y x h = rw (rule-entry n x y z p q h) e
 
-  pub rowed : {u : Written} {movement transaction party account security : ℕ} → r ≡ addedAll u (codesText party account security)
-      → security ≡ rowNumber n 7 → account ≡ rowNumber n 6 → party ≡ rowNumber n 5 → u ≡ addedAll v (wordsText movement transaction)
-      → transaction ≡ rowNumber n 4 → movement ≡ rowNumber n 3 → v ≡ addedAll w (listed (a ∷ b ∷ c ∷ [])) → c ≡ rowNumber n 2 → b ≡ rowNumber n 1
-      → a ≡ rowNumber n 0 → w ≡ writtenAs (77 ∷ listed (csd ∷ day ∷ [])) → n < 32 → r ≡ writtenAs (rowLine n csd day)
-  unfolding rowLine head
-  rowed {movement = movement} {transaction} {party} {account} {security} g s q p f t m e z y x d h =
-      rw (g, f, e, d, then-as, then-as, then-as)
-      (ap writtenAs
-      (row-text csd day a b c (wordsText movement transaction) (codesText party account security) (row-entry n x y z h)
-      (rw (s, q, p, t, m) (row-values n h))))
+  pub rowed : {movement transaction party account security : ℕ}
+      → r ≡ writtenAs (written (shapeAt 5) (csd ∷ day ∷ row a b c movement transaction party account security))
+      → security ≡ rowNumber n 7 → account ≡ rowNumber n 6 → party ≡ rowNumber n 5 → transaction ≡ rowNumber n 4 → movement ≡ rowNumber n 3
+      → c ≡ rowNumber n 2 → b ≡ rowNumber n 1 → a ≡ rowNumber n 0 → n < 32 → r ≡ writtenAs (rowLine n csd day)
+  unfolding rowLine shapes
+  rowed e s q p t m z y x h = rw (row-entry n h, ← x, ← y, ← z, ← m, ← t, ← p, ← q, ← s) e
 
 -- ---- the set
 

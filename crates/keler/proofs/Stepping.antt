@@ -13,10 +13,10 @@ use Rattle.tables.proofs.Counts.{cases, both}
 use Rattle.meaning.specs.Fields.{within}
 use Rattle.meaning.specs.Forms.{isDay}
 use Rattle.meaning.specs.Keler.{kelerLines, kelerLine, kelerRefusal}
-use Rattle.keler.specs.Written.{writtenAs}
+use Rattle.writing.specs.Written.{writtenAs, Holds}
 use Rattle.keler.specs.Step.{admitted, Ready, Puts, Steps}
-use Rattle.keler.specs.declared.writing.Written.{Written}
-use Rattle.keler.proofs.Texts.{Holds, holds}
+use Rattle.writing.specs.declared.bytes.Written.{Written}
+use Rattle.writing.proofs.Texts.{holds}
 use Rattle.keler.proofs.Sizes.{sized}
 
 -- ---- the bytes of a line in front
@@ -107,9 +107,7 @@ module _ (number csd day first last space : ℕ) where
   line-fits z =
       let a = admits z in
       let low : number - 1 < 55 = omega (arith, a .number-low, a .number-high) in
-      let s = sized (number - 1) csd day first last low (a .csd-right) (a .day-right) (a .first-right) (a .last-right) in
-      let b = both (leb 7 (length (getD (kelerLines csd day first last) (number - 1) []))) _ s in
-      (leb-true 7 _ (b .0), leb-true _ 80 (b .1))
+      sized csd day (a .csd-right) (a .day-right) first last (a .first-right) (a .last-right) (number - 1) low
 
   pub numbered : {n : ℕ} → n ≡ kelerRefusal number csd day first last space → n ≡ 0 → 1 ≤ number
   numbered a e = admits (sym a ∙ e) .number-low

@@ -4,13 +4,9 @@ use mathlib.Core.Path.{_≡_, refl, ap, sym, _∙_}
 use mathlib.Core.List.{List, [], _∷_, _++_, map, append-nil}
 use native.Mathlib.Omega.{arith}
 use lib.ListN.{length, getD, drop, replicate, getD-replicate, drop-of-length-le}
-use Rattle.meaning.specs.Text.{numeral}
-use Rattle.meaning.specs.Forms.{signForm, tenValues}
-use Rattle.meaning.specs.Writing.{write, writeAll}
-use Rattle.meaning.specs.Keler.{kelerTypes, kelerRules, kelerRows}
+use Rattle.meaning.specs.Keler.{kelerTypes, kelerRules, row, kelerRows}
 use Rattle.tables.proofs.Entries.{map-entry}
 use Rattle.keler.specs.Tables.{columns, rowNumber}
-use Rattle.keler.specs.Lines.{signText, movementText, transactionText, wordsText, codeText, codesText}
 
 -- ---- an entry by its numbers
 
@@ -48,17 +44,13 @@ row-column n k h j =
 
 -- ---- entries
 
-pub types-wide : (n : ℕ) → n < 10 → length (getD kelerTypes n []) ≡ 3
+types-wide : (n : ℕ) → n < 10 → length (getD kelerTypes n []) ≡ 3
 unfolding kelerTypes
 types-wide = width 3 kelerTypes refl
 
-pub rules-wide : (n : ℕ) → n < 13 → length (getD kelerRules n []) ≡ 5
+rules-wide : (n : ℕ) → n < 13 → length (getD kelerRules n []) ≡ 5
 unfolding kelerRules
 rules-wide = width 5 kelerRules refl
-
-rows-wide : (n : ℕ) → n < 32 → length (getD kelerRows n []) ≡ 13
-unfolding kelerRows
-rows-wide = width 13 kelerRows refl
 
 pub type-entry : (n : ℕ) {a b c : ℕ} → a ≡ getD (getD kelerTypes n []) 0 0 → b ≡ getD (getD kelerTypes n []) 1 0
     → c ≡ getD (getD kelerTypes n []) 2 0 → n < 10 → getD kelerTypes n [] ≡ a ∷ b ∷ c ∷ []
@@ -69,22 +61,12 @@ pub rule-entry : (n : ℕ) {a b c d e : ℕ} → a ≡ getD (getD kelerRules n [
     → getD kelerRules n [] ≡ a ∷ b ∷ c ∷ d ∷ e ∷ []
 rule-entry n p q r s t h = rw (p, q, r, s, t) (whole (getD kelerRules n []) 5 (rules-wide n h))
 
--- a sign's letter
-pub rule-sign : (n : ℕ) {d : ℕ} → d ≡ getD (getD kelerRules n []) 3 0 → n < 13 → signText d ≡ 44 ∷ write signForm d
-unfolding kelerRules signText write
-rule-sign n e h =
-    rw e
-    (sym (map-entry (λ e. signText (getD e 3 0)) kelerRules n [] [] h) ∙ map-entry (λ e. 44 ∷ write signForm (getD e 3 0)) kelerRules n [] [] h)
-
-pub row-entry : (n : ℕ) {a b c : ℕ} → a ≡ rowNumber n 0 → b ≡ rowNumber n 1 → c ≡ rowNumber n 2 → n < 32
-    → getD kelerRows n [] ≡ a ∷ b ∷ c ∷ drop 3 (getD kelerRows n [])
-unfolding rowNumber
-row-entry n p q r h = rw (p, q, r) (by-numbers (getD kelerRows n []) 3 (omega (arith, rows-wide n h)))
-
--- a row's ten values, as the code writes them
-pub row-values : (n : ℕ) → n < 32
-    → wordsText (rowNumber n 3) (rowNumber n 4) ++ codesText (rowNumber n 5) (rowNumber n 6) (rowNumber n 7) ≡ writeAll tenValues (drop 3 (getD kelerRows n []))
-unfolding kelerRows rowNumber wordsText movementText transactionText codesText codeText writeAll numeral
-row-values n h =
-    sym (map-entry (λ e. wordsText (getD e 4 0) (getD e 6 0) ++ codesText (getD e 9 0) (getD e 10 0) (getD e 11 0)) kelerRows n [] [] h)
-    ∙ map-entry (λ e. writeAll tenValues (drop 3 e)) kelerRows n [] [] h
+-- the columns that the code's table does not have are empty
+pub row-entry : (n : ℕ) → n < 32
+    → getD kelerRows n []
+    ≡ row (rowNumber n 0) (rowNumber n 1) (rowNumber n 2) (rowNumber n 3) (rowNumber n 4) (rowNumber n 5) (rowNumber n 6) (rowNumber n 7)
+unfolding kelerRows rowNumber
+row-entry n h =
+    map-entry
+    (λ e. row (getD e 0 0) (getD e 1 0) (getD e 2 0) (getD e 4 0) (getD e 6 0) (getD e 9 0) (getD e 10 0) (getD e 11 0))
+    kelerRows n [] [] h

@@ -1,4 +1,3 @@
 pub mod Tables
-pub mod Written
 pub mod Lines
 pub mod Step

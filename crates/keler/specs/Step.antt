@@ -8,7 +8,8 @@ use lib.ListN.{length, take, drop}
 use Rattle.meaning.specs.Fields.{within}
 use Rattle.meaning.specs.Forms.{isDay}
 use Rattle.meaning.specs.Keler.{kelerLine, kelerRefusal}
-use Rattle.keler.specs.declared.writing.Written.{Written}
+use Rattle.writing.specs.Written.{space}
+use Rattle.writing.specs.declared.bytes.Written.{Written}
 
 -- ---- the promise
 
@@ -37,8 +38,8 @@ admitted number csd day first last space =
 
 -- the line w fits into the bytes `before`
 pub record Ready (w : Written) (before : List ℕ) : Type 0 where
-  pub size : length (w .bytes) ≡ 80
-  pub few : w .len ≤ 80
+  pub size : length (w .bytes) ≡ space
+  pub few : w .len ≤ space
   pub room : 80 ≤ length before
 
 -- putting w in front of the bytes `before` returns r and leaves the bytes `after`

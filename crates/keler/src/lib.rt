@@ -1,6 +1,5 @@
 // Writes the lines of the KELER set (document 01, 'The KELER set').
 mod set;
-mod writing;
 
 use basics::and;
 use basics::pick_size;

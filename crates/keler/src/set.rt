@@ -1,19 +1,19 @@
 // The tables of the KELER set, as document 01 gives them, and the lines that they make.
-use crate::writing::Written;
-use crate::writing::add;
-use crate::writing::add_field;
-use crate::writing::add_word;
-use crate::writing::blank;
 use basics::wide;
+use shapes::SHAPE_M;
+use shapes::SHAPE_R;
+use shapes::SHAPE_T;
+use writing::Written;
+use writing::blank;
+use writing::write_line;
 ghost use Prim.Native.Nat.{_<_};
 ghost use mathlib.Core.Path.{_≡_};
-ghost use mathlib.Core.List.{[], _∷_};
+ghost use mathlib.Core.List.{[]};
 ghost use lib.ListN.{getD};
 ghost use Rattle.meaning.specs.Keler.{kelerTypes, kelerRules, kelerLines};
-ghost use Rattle.meaning.specs.Printing.{listed};
+ghost use Rattle.writing.specs.Written.{writtenAs};
 ghost use Rattle.keler.specs.Tables.{rowNumber};
-ghost use Rattle.keler.specs.Written.{addedAll, writtenAs};
-ghost use Rattle.keler.specs.Lines.{signText, movementText, transactionText, wordsText, codeText, codesText, typeLine, ruleLine, rowLine};
+ghost use Rattle.keler.specs.Lines.{typeLine, ruleLine, rowLine};
 
 // Type, object, processing.
 const KELER_TYPES: [[u8; 3]; 10] = [
@@ -118,110 +118,78 @@ fn row_number(n: usize, k: usize) -> u32
     KELER_ROWS[n][k]
 }
 
-// ---- the parts of a line
-
-// The numbers that every entry begins with: type, object, and processing or sequence.
-fn add_key(w: Written, a: u32, b: u32, c: u32) -> Written
-    ensures { λ r. ⌜ r ≡ addedAll w (listed (a ∷ b ∷ c ∷ [])) ⌝ }
-{
-    add_field(add_field(add_field(w, a), b), c)
-}
-
-// The letter, the csd and the day.
-fn start(letter: u8, csd: u32, day: u32) -> Written
-    ensures { λ r. ⌜ r ≡ writtenAs (letter ∷ listed (csd ∷ day ∷ [])) ⌝ }
-{
-    add_field(add_field(add(blank(), letter), csd), day)
-}
-
-// The first and the last day.
-fn add_days(w: Written, first: u32, last: u32) -> Written
-    ensures { λ r. ⌜ r ≡ addedAll w (listed (first ∷ last ∷ [])) ⌝ }
-{
-    add_field(add_field(w, first), last)
-}
-
-// P positive, N negative.
-fn add_sign(w: Written, sign: u32) -> Written
-    ensures { λ r. ⌜ r ≡ addedAll w (signText sign) ⌝ }
-{
-    let v = add(w, b',');
-    if sign == P {
-        return add(v, b'P');
-    }
-    add(v, b'N')
-}
-
-fn add_movement(w: Written, movement: u32) -> Written
-    ensures { λ r. ⌜ r ≡ addedAll w (movementText movement) ⌝ }
-{
-    add_word(w, movement == DELI, b"DELI")
-}
-
-fn add_transaction(w: Written, transaction: u32) -> Written
-    ensures { λ r. ⌜ r ≡ addedAll w (transactionText transaction) ⌝ }
-{
-    add_word(w, transaction == CORP, b"CORP")
-}
-
-// Criteria 0 to 5, of which only movement and transaction may be filled.
-fn add_words(w: Written, movement: u32, transaction: u32) -> Written
-    ensures { λ r. ⌜ r ≡ addedAll w (wordsText movement transaction) ⌝ }
-{
-    let v = add_movement(add(w, b','), movement);
-    let u = add_transaction(add(v, b','), transaction);
-    add(add(u, b','), b',')
-}
-
-// A code, or nothing where it is 0.
-fn add_code(w: Written, code: u32) -> Written
-    ensures { λ r. ⌜ r ≡ addedAll w (codeText code) ⌝ }
-{
-    if code == 0 {
-        return add(w, b',');
-    }
-    add_field(w, code)
-}
-
-// Criteria 6 to 9: the codes of party, account and security, and no currency.
-fn add_codes(w: Written, party: u32, account: u32, security: u32) -> Written
-    ensures { λ r. ⌜ r ≡ addedAll w (codesText party account security) ⌝ }
-{
-    add(
-        add_code(add_code(add_code(w, party), account), security),
-        b',',
-    )
-}
-
 // ---- the lines
 
 fn type_line(n: usize, csd: u32, day: u32, first: u32, last: u32) -> Written
     requires { ⌜ n < 10 ⌝ }
     ensures { λ r. ⌜ r ≡ writtenAs (typeLine n csd day first last) ⌝ }
 {
-    let w = start(b'T', csd, day);
-    let v = add_key(w, type_number(n, 0), type_number(n, 1), type_number(n, 2));
-    add_days(v, first, last)
+    let number = type_number(n, 0);
+    let object = type_number(n, 1);
+    let processing = type_number(n, 2);
+    write_line(
+        SHAPE_T,
+        &[csd, day, number, object, processing, first, last],
+    )
 }
 
 fn rule_line(n: usize, csd: u32, day: u32, first: u32, last: u32) -> Written
     requires { ⌜ n < 13 ⌝ }
     ensures { λ r. ⌜ r ≡ writtenAs (ruleLine n csd day first last) ⌝ }
 {
-    let w = start(b'R', csd, day);
-    let v = add_key(w, rule_number(n, 0), rule_number(n, 1), rule_number(n, 2));
-    let u = add_field(add_sign(v, rule_number(n, 3)), rule_number(n, 4));
-    add_days(u, first, last)
+    let number = rule_number(n, 0);
+    let object = rule_number(n, 1);
+    let sequence = rule_number(n, 2);
+    let sign = rule_number(n, 3);
+    let criteria = rule_number(n, 4);
+    write_line(
+        SHAPE_R,
+        &[
+            csd,
+            day,
+            number,
+            object,
+            sequence,
+            sign,
+            criteria,
+            first,
+            last,
+        ],
+    )
 }
 
 fn row_line(n: usize, csd: u32, day: u32) -> Written
     requires { ⌜ n < 32 ⌝ }
     ensures { λ r. ⌜ r ≡ writtenAs (rowLine n csd day) ⌝ }
 {
-    let w = start(b'M', csd, day);
-    let v = add_key(w, row_number(n, 0), row_number(n, 1), row_number(n, 2));
-    let u = add_words(v, row_number(n, 3), row_number(n, 4));
-    add_codes(u, row_number(n, 5), row_number(n, 6), row_number(n, 7))
+    let number = row_number(n, 0);
+    let object = row_number(n, 1);
+    let sequence = row_number(n, 2);
+    let movement = row_number(n, 3);
+    let transaction = row_number(n, 4);
+    let party = row_number(n, 5);
+    let account = row_number(n, 6);
+    let security = row_number(n, 7);
+    write_line(
+        SHAPE_M,
+        &[
+            csd,
+            day,
+            number,
+            object,
+            sequence,
+            0,
+            movement,
+            0,
+            transaction,
+            0,
+            0,
+            party,
+            account,
+            security,
+            0,
+        ],
+    )
 }
 
 // The line after n others: 10 T lines, 13 R lines, 32 M lines, and no bytes after these.

@@ -15,7 +15,7 @@ use Rattle.meaning.specs.Forms.{Form, csdForm, read}
 use Rattle.meaning.specs.Reading.{together, readAll}
 use Rattle.fields.specs.Cut.{more, Passes}
 use Rattle.line.specs.Values.{valueOf}
-use Rattle.line.specs.Table.{formsAt, Counted}
+use Rattle.shapes.specs.Table.{formsAt, Counted}
 use Rattle.line.specs.Line.{firstRead, putAt, inRow}
 use Rattle.line.proofs.CommandPadding.{sets-padded}
 use Rattle.line.specs.declared.forms.Value.{Value}

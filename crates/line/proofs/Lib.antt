@@ -2,7 +2,7 @@ pub mod LineReturns
 pub mod Loops
 pub mod Capped
 pub mod CommandPadding
-pub mod TableRule
+pub mod Mosts
 pub mod ShapeRows
 pub mod FieldNumbers
 pub mod Readings

@@ -18,7 +18,8 @@ use Rattle.meaning.specs.Reading.{refused, readAll, byNumbers, byShape, byField
 use Rattle.fields.specs.Cut.{more}
 use Rattle.fields.proofs.Cutting.{next, first-field, place-bound}
 use Rattle.meaning.specs.Forms.{letterByte}
-use Rattle.line.specs.Table.{rows, shapeAt, atRow, formsAt, asShape, firstRow}
+use Rattle.shapes.specs.Table.{rows, shapeAt, formsAt}
+use Rattle.line.specs.Table.{atRow, asShape, firstRow}
 use Rattle.line.specs.Line.{inRow, valuesOf, lineOf, numbersLine}
 use Rattle.line.specs.declared.reading.Values.{Values}
 use Rattle.line.specs.declared.reading.Line.{Line}

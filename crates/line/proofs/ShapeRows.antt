@@ -1,7 +1,7 @@
 -- The rows of the table of shapes: the code finds the row that the meaning's `firstShape` gives, and whether any row
 -- has a letter.
 use Prim.Native.Nat.{ℕ, _+_, _≤_, _<_}
-use mathlib.Core.Path.{_≡_, refl, sym, _∙_}
+use mathlib.Core.Path.{_≡_, refl, ap, sym, _∙_}
 use mathlib.Core.Bool.{Bool, true, false, _&&_, and-true}
 use mathlib.Core.List.{List, [], _∷_, map}
 use mathlib.Core.Option.{some, none}
@@ -14,17 +14,16 @@ use borrow.Author.Tests.{eqb-true, eq-eqb, ne-eqb}
 use Rattle.tables.specs.Count.{has, every}
 use Rattle.tables.proofs.Counts.{cases, both}
 use Rattle.tables.proofs.Lists.{has-cons}
-use Rattle.tables.proofs.Entries.{map-entry, every-entry}
+use Rattle.tables.proofs.Entries.{map-entry}
 use Rattle.meaning.specs.Text.{same}
 use Rattle.meaning.specs.Forms.{letterText, Shape, shapeQ, shapes, hasLetter, firstShape}
 use Rattle.meaning.specs.Forms.{letterByte}
-use Rattle.line.specs.Table.{rows, shapeAt, atRow, formsAt, asShape, firstRow, Counted}
+use Rattle.shapes.specs.Table.{rows, shapeAt, formsAt, Counted}
+use Rattle.shapes.proofs.TableRule.{oneByte, all-one-byte, letter-text}
+use Rattle.line.specs.Table.{atRow, asShape, firstRow}
 use Rattle.line.proofs.Loops.{same-length}
 
 -- ---- a letter is one byte
-
-abbrev oneByte : Shape → Bool
-oneByte s = eqb (length (letterText (s .letter))) 1
 
 one-byte : (c : ℕ) (f : List ℕ) → length f ≡ 1 → same (c ∷ []) f ≡ eqb c (getD f 0 0)
 one-byte c [] h = absurd (omega arith)
@@ -32,8 +31,7 @@ one-byte c (x ∷ []) h = and-true (eqb c x)
 one-byte c (x ∷ y ∷ f) h = absurd (omega arith)
 
 row-letter : (c n : ℕ) → n < rows → hasLetter (c ∷ []) (shapeAt n) ≡ eqb c (letterByte (shapeAt n .letter))
-unfolding shapes every
-row-letter c n h = one-byte c (letterText (shapeAt n .letter)) (eqb-true _ 1 (every-entry oneByte shapes n shapeQ refl h))
+row-letter c n h = one-byte c (letterText (shapeAt n .letter)) (ap length (letter-text n))
 
 none-long : (f : List ℕ) (l : List Shape) → every oneByte l ≡ true → (length f ≡ 1 → ⊥) → has (hasLetter f) l ≡ false
 unfolding every has
@@ -45,8 +43,7 @@ none-long f (s ∷ l) e h =
 
 -- no row has a letter of another length
 pub no-row : (f : List ℕ) → (length f ≡ 1 → ⊥) → has (hasLetter f) shapes ≡ false
-unfolding shapes every
-no-row f h = none-long f shapes refl h
+no-row f h = none-long f shapes all-one-byte h
 
 -- ---- the first row that passes a test
 

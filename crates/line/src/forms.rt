@@ -9,6 +9,14 @@ use basics::pick;
 use basics::wide;
 use basics::within;
 use days::is_day;
+use shapes::CO;
+use shapes::DY;
+use shapes::KI;
+use shapes::MO;
+use shapes::OPTIONAL;
+use shapes::PA;
+use shapes::SG;
+use shapes::TR;
 ghost use Prim.Native.Nat.{_-_, _<_, _≤_, min};
 ghost use mathlib.Core.Path.{_≡_};
 ghost use mathlib.Core.List.{[], _∷_};
@@ -27,7 +35,8 @@ ghost use Rattle.meaning.specs.Forms.{
   kindForm,
 };
 ghost use Rattle.line.specs.Values.{valueOf};
-ghost use Rattle.line.specs.Table.{plainForm, Most, formAt};
+ghost use Rattle.shapes.specs.Table.{plainForm, formAt};
+ghost use Rattle.line.specs.Table.{Most};
 
 // ---- numbers
 
@@ -152,44 +161,9 @@ fn kind(f: &[u8]) -> Value
     given(n <= 3, n)
 }
 
-// ---- the forms of document 01's fields, by number
+// ---- a field by the number of its form
 
-// Numbers from 1 to what MOST says: csd, type, object, processing, sequence, criteria, number (of a party, an account
-// or a security), party type.
-pub const CS: u8 = 0;
-
-pub const TY: u8 = 1;
-
-pub const OB: u8 = 2;
-
-pub const PR: u8 = 3;
-
-pub const SQ: u8 = 4;
-
-pub const CR: u8 = 5;
-
-pub const NU: u8 = 6;
-
-pub const PT: u8 = 7;
-// Other forms: day, sign, kind, code, movement, payment, transaction, currency.
-pub const DY: u8 = 8;
-
-pub const SG: u8 = 9;
-
-pub const KI: u8 = 10;
-
-pub const CO: u8 = 11;
-
-pub const MO: u8 = 12;
-
-pub const PA: u8 = 13;
-
-pub const TR: u8 = 14;
-
-pub const CU: u8 = 15;
-// Added to the number of a form whose field may be empty.
-pub const OPTIONAL: u8 = 16;
-
+// The greatest number of the forms below DY.
 const MOST: [u32; 8] = [8, 99, 2, 3, 99, 1023, 999999, 3];
 
 fn most(form: u8) -> u32

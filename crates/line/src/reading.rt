@@ -3,23 +3,6 @@
 use crate::ALLOWED;
 use crate::count;
 use crate::every;
-use crate::forms::CO;
-use crate::forms::CR;
-use crate::forms::CS;
-use crate::forms::CU;
-use crate::forms::DY;
-use crate::forms::KI;
-use crate::forms::MO;
-use crate::forms::NU;
-use crate::forms::OB;
-use crate::forms::OPTIONAL;
-use crate::forms::PA;
-use crate::forms::PR;
-use crate::forms::PT;
-use crate::forms::SG;
-use crate::forms::SQ;
-use crate::forms::TR;
-use crate::forms::TY;
 use crate::forms::Value;
 use crate::forms::field_value;
 use basics::and;
@@ -27,6 +10,10 @@ use basics::byte_at;
 use basics::no;
 use fields::LineReader;
 use fields::find;
+use shapes::SHAPES;
+use shapes::form_count;
+use shapes::form_number;
+use shapes::shape_letter;
 ghost use Prim.Native.Nat.{_<_};
 ghost use mathlib.Core.Path.{_≡_};
 ghost use mathlib.Core.List.{[], _∷_};
@@ -39,77 +26,11 @@ ghost use Rattle.meaning.specs.Forms.{csdForm, shapes, hasLetter};
 ghost use Rattle.meaning.specs.Reading.{readAll, refused, byShape, byFields, numbersRead};
 ghost use Rattle.line.specs.Values.{valueOf};
 ghost use Rattle.fields.specs.Cut.{more, Passes};
-ghost use Rattle.meaning.specs.Forms.{letterByte};
-ghost use Rattle.line.specs.Table.{rows, formAt, formsAt, Counted, shapeAt, atRow, firstRow, asShape};
+ghost use Rattle.shapes.specs.Table.{rows, formAt, formsAt, shapeAt};
+ghost use Rattle.line.specs.Table.{atRow, firstRow, asShape};
 ghost use Rattle.line.specs.Line.{firstRead, putAt, inRow, valuesOf, numbersLine, lineOf};
 
-// ---- the table of shapes: a letter and the forms of the fields after it
-
-// The forms of a row's ten values, each of which may be empty.
-const V0: u8 = OPTIONAL + PT;
-
-const V1: u8 = OPTIONAL + MO;
-
-const V2: u8 = OPTIONAL + PA;
-
-const V3: u8 = OPTIONAL + TR;
-
-const V4: u8 = OPTIONAL + NU;
-
-const V5: u8 = OPTIONAL + NU;
-
-const V6: u8 = OPTIONAL + CO;
-
-const V7: u8 = OPTIONAL + CO;
-
-const V8: u8 = OPTIONAL + CO;
-
-const V9: u8 = OPTIONAL + CU;
-
-// How many rows the table has. A row is named by its number.
-const SHAPES: u8 = 10;
-
-// The letter of each row.
-const LETTERS: [u8; 10] = [b'T', b'E', b'R', b'O', b'D', b'M', b'N', b'A', b'Z', b'Q'];
-
-// How many fields stand after each row's letter.
-const COUNTS: [usize; 10] = [7, 5, 9, 6, 5, 15, 15, 7, 7, 11];
-
-// The forms of the fields after each row's letter. What stands after the last field is never read.
-const FORMS: [[u8; 15]; 10] = [
-    [CS, DY, TY, OB, PR, DY, DY, 0, 0, 0, 0, 0, 0, 0, 0],
-    [CS, DY, TY, OB, DY, 0, 0, 0, 0, 0, 0, 0, 0, 0, 0],
-    [CS, DY, TY, OB, SQ, SG, CR, DY, DY, 0, 0, 0, 0, 0, 0],
-    [CS, DY, TY, OB, SQ, SQ, 0, 0, 0, 0, 0, 0, 0, 0, 0],
-    [CS, DY, TY, OB, SQ, 0, 0, 0, 0, 0, 0, 0, 0, 0, 0],
-    [CS, DY, TY, OB, SQ, V0, V1, V2, V3, V4, V5, V6, V7, V8, V9],
-    [CS, DY, TY, OB, SQ, V0, V1, V2, V3, V4, V5, V6, V7, V8, V9],
-    [CS, DY, KI, NU, CO, DY, DY, 0, 0, 0, 0, 0, 0, 0, 0],
-    [CS, DY, KI, NU, CO, DY, DY, 0, 0, 0, 0, 0, 0, 0, 0],
-    [CS, DY, OB, PT, V1, V2, V3, V9, NU, NU, NU, 0, 0, 0, 0],
-];
-
-fn shape_letter(shape: u8) -> u8
-    requires { ⌜ shape < rows ⌝ }
-    ensures { λ r. ⌜ r ≡ letterByte (shapeAt shape .letter) ⌝ }
-{
-    LETTERS[shape as usize]
-}
-
-fn form_count(shape: u8) -> usize
-    requires { ⌜ shape < rows ⌝ }
-    ensures { λ r. ⌜ Counted shape r ⌝ }
-{
-    COUNTS[shape as usize]
-}
-
-// The number of the form of field k.
-fn form_number(shape: u8, k: usize) -> u8
-    requires { ⌜ (shape < rows) × (k < 15) ⌝ }
-    ensures { λ r. ⌜ formAt r ≡ getD (formsAt shape) k csdForm ⌝ }
-{
-    FORMS[shape as usize][k]
-}
+// ---- the row of the table of shapes
 
 // Whether a row has that letter.
 fn has_letter(letter: u8) -> bool

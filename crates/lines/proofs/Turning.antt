@@ -16,7 +16,7 @@ use Rattle.book.specs.Sound.{sound}
 use Rattle.text.specs.Parts.{spanFrom, Splits}
 use Rattle.text.specs.Printed.{Prints}
 use Rattle.text.specs.declared.lines.Span.{Span}
-use Rattle.text.specs.declared.printing.Printed.{Printed}
+use Rattle.writing.specs.declared.bytes.Written.{Written}
 use Rattle.precheck.specs.Taking.{bytesBy, Answers}
 use Rattle.lines.specs.Ended.{ended}
 use Rattle.lines.specs.Many.{laid, writtenAs, Standing, room, one, many, standing, Put, Turn, Answered}
@@ -25,10 +25,10 @@ use Rattle.lines.proofs.Ending.{ended-next, ended-none}
 -- ---- an answer written
 
 -- the bytes of a printed answer are as many as its length says
-pub printed-length : {a : Answer} {p : Printed} → Prints a p → p .len ≡ length (take (p .len) (p .bytes))
+pub printed-length : {a : Answer} {p : Written} → Prints a p → p .len ≡ length (take (p .len) (p .bytes))
 printed-length {a} {p} h = sym (length-take-le (p .len) (p .bytes) (omega (arith, h .few, h .size)))
 
-pub printed-fits : {a : Answer} {p : Printed} (n m : ℕ) → Prints a p → n + 33 ≤ m → n + length (take (p .len) (p .bytes)) ≤ m
+pub printed-fits : {a : Answer} {p : Written} (n m : ℕ) → Prints a p → n + 33 ≤ m → n + length (take (p .len) (p .bytes)) ≤ m
 printed-fits n m i h = omega (arith, printed-length i, i .few)
 
 -- one byte more behind bytes that were laid
@@ -45,7 +45,7 @@ laid-more o t at c h =
     ∙ ap (paste o at u) (sym n)
     ∙ ap (λ z. take at o ++ z ++ drop (at + length u) o) (take-length u)
 
-pub put : (o o′ : List ℕ) (at : ℕ) (a : Answer) (p : Printed) → Prints a p → o′ ≡ laid o at (take (p .len) (p .bytes)) → at + 33 ≤ length o → length o′ ≡ length o
+pub put : (o o′ : List ℕ) (at : ℕ) (a : Answer) (p : Written) → Prints a p → o′ ≡ laid o at (take (p .len) (p .bytes)) → at + 33 ≤ length o → length o′ ≡ length o
     → Put o at a (at + p .len + 1) (set o′ (at + p .len) 10)
 unfolding writtenAs
 put o o′ at a p i e h z =

@@ -4,5 +4,4 @@ mod printing;
 
 pub use lines::Span;
 pub use lines::next_line;
-pub use printing::Printed;
 pub use printing::print;

@@ -1,6 +1,6 @@
 -- `keler::set::row_line` meets its contract.
-use borrow.Author.Needs.{needs}
 use Rattle.keler.proofs.SetLines.{rowed}
+use borrow.Author.Needs.{needs}
 use Rattle.keler.proofs.set.row_line.Statement.{statement}
 use Rattle.keler.proofs.set.row_line.Tie as tie
 
@@ -16,8 +16,6 @@ row-line-spec =
     (λ c κs. search needs)
     (λ c κs. search needs)
     (λ c κs. search needs)
-    (λ c κs. search needs)
-    (λ c κs. search needs)
-    (λ c κs. search needs)
+    (λ c. search needs)
     (λ c κs. search needs)
     (λ c. search rowed))

@@ -1,6 +1,6 @@
 -- `keler::set::rule_line` meets its contract.
-use borrow.Author.Needs.{needs}
 use Rattle.keler.proofs.SetLines.{ruled}
+use borrow.Author.Needs.{needs}
 use Rattle.keler.proofs.set.rule_line.Statement.{statement}
 use Rattle.keler.proofs.set.rule_line.Tie as tie
 
@@ -13,9 +13,6 @@ rule-line-spec =
     (λ c κs. search needs)
     (λ c κs. search needs)
     (λ c κs. search needs)
-    (λ c κs. search needs)
-    (λ c κs. search needs)
-    (λ c κs. search needs)
-    (λ c κs. search needs)
+    (λ c. search needs)
     (λ c κs. search needs)
     (λ c. search ruled))

@@ -1,6 +1,6 @@
 -- `keler::set::type_line` meets its contract.
-use borrow.Author.Needs.{needs}
 use Rattle.keler.proofs.SetLines.{typed}
+use borrow.Author.Needs.{needs}
 use Rattle.keler.proofs.set.type_line.Statement.{statement}
 use Rattle.keler.proofs.set.type_line.Tie as tie
 
@@ -11,7 +11,6 @@ type-line-spec =
     (λ c κs. search needs)
     (λ c κs. search needs)
     (λ c κs. search needs)
-    (λ c κs. search needs)
-    (λ c κs. search needs)
+    (λ c. search needs)
     (λ c κs. search needs)
     (λ c. search typed))

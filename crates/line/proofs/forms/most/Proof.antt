@@ -1,5 +1,5 @@
 -- `line::forms::most` meets its contract.
-use Rattle.line.proofs.TableRule.{most-form}
+use Rattle.line.proofs.Mosts.{most-form}
 use borrow.Author.Needs.{needs}
 use Rattle.line.proofs.forms.most.Statement.{statement}
 use Rattle.line.proofs.forms.most.Tie as tie

@@ -1,5 +1,5 @@
 -- `line::forms::plain_value` meets its contract.
-use Rattle.line.proofs.TableRule.{past, last-form}
+use Rattle.shapes.proofs.TableRule.{past, last-form}
 use native.Mathlib.Omega.{arith}
 use borrow.Author.Needs.{needs}
 use Rattle.line.proofs.forms.plain_value.Statement.{statement}

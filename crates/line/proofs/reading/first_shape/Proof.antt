@@ -2,7 +2,8 @@
 use Prim.Native.Nat.{_-_}
 use native.Mathlib.Omega.{arith}
 use borrow.Author.Needs.{needs}
-use Rattle.line.specs.Table.{rows, asShape}
+use Rattle.shapes.specs.Table.{rows}
+use Rattle.line.specs.Table.{asShape}
 use Rattle.line.proofs.ShapeRows.{SoughtTo, sought-first, shape-here, shape-next, sought-end}
 use Rattle.line.proofs.reading.first_shape.Statement.{statement}
 use Rattle.line.proofs.reading.first_shape.Tie as tie

@@ -61,17 +61,17 @@ use Rattle.fields.proofs.LineReader.next as next
 use Rattle.fields.proofs.LineReader.next.Symbol as next-def
 use Rattle.fields.proofs.LineReader.next.Symbol.{name as #next}
 use Rattle.fields.proofs.LineReader.next.Met as next-thm
-use Rattle.line.specs.Table.{rows, formsAt, Counted}
+use Rattle.shapes.specs.Table.{rows, formsAt, Counted}
 use Rattle.line.specs.Line.{firstRead, putAt, inRow, valuesOf}
 use Rattle.line.specs.declared.reading.Values.{Values}
 use Rattle.tables.proofs.Walk.{whiles}
 use Rattle.line.proofs.FieldNumbers.{RowTo, row-start, row-next, row-end}
 use Rattle.line.proofs.reading.Values as S
 use Rattle.line.proofs.reading.Values.Laws as S′
-use Rattle.line.proofs.reading.form_count as count
-use Rattle.line.proofs.reading.form_count.Symbol as count-def
-use Rattle.line.proofs.reading.form_count.Symbol.{name as #count}
-use Rattle.line.proofs.reading.form_count.Met as count-thm
+use Rattle.shapes.proofs.form_count as count
+use Rattle.shapes.proofs.form_count.Symbol as count-def
+use Rattle.shapes.proofs.form_count.Symbol.{name as #count}
+use Rattle.shapes.proofs.form_count.Met as count-thm
 use Rattle.line.proofs.reading.no_values as zeros
 use Rattle.line.proofs.reading.no_values.Symbol as zeros-def
 use Rattle.line.proofs.reading.no_values.Symbol.{name as #zeros}
@@ -197,7 +197,7 @@ module _ {M : Type 1} (𝓤 : URA M) (H : Heap 𝓤) (A : Atoms 𝓤) (W : Given
   to-count = ((tt, tt, tt, (p, tt), (vint w8 p ∷ [], tt)), tt)
 
   goes-count : ent 𝓤 (sem 𝓤 H A ftrue) (Count 𝓤 H A mem run .pre to-count)
-  goes-count = qed W (‵ ftrue ∷ []) ∵ says ! p-few $ owned ! u8 (Is u8) (uint-makes 𝓤 H A W w8) p _ (refl, p-fits) $ fjoin ! $ nothing ! $ join ! $ by ! (id⊢ 𝓤 _)
+  goes-count = qed W (‵ ftrue ∷ []) ∵ owned ! u8 (Is u8) (uint-makes 𝓤 H A W w8) p _ (refl, p-fits) $ fjoin ! $ nothing ! $ join ! $ nothing ! $ move ! (1 ∷ 0 ∷ []) $ join ! $ by ! (id⊢ 𝓤 _)
 
   count-says : (n : ℕ) → ent 𝓤 (ensured 𝓤 H A count.ended (count.clauses 𝓤 H A mem run) tt (p, tt) tt n) (fact 𝓤 (Counted p n))
   count-says n = exE 𝓤 _ (λ ws. snd∗ 𝓤 (sem 𝓤 H A (lasts count.ended tt (p, tt) ws)) (fact 𝓤 (Counted p n)))
@@ -398,7 +398,7 @@ read-values-spec 𝓤 H 𝓜 𝓖 𝓡 =
     (tables 𝓤 H 𝓜 𝓡 code.env .C) (tables 𝓤 H 𝓜 𝓡 code.env .Λ) #read-values code.function (code.unfolded 𝓤 H 𝓜 𝓡)
     (meets 𝓤 H (𝓖 .A) (givenOf 𝓤 H 𝓜 𝓖) (𝓜 .mem) (𝓡 .run) (tablesOf 𝓤 H 𝓜 (tables 𝓤 H 𝓜 𝓡 code.env))
     (record {
-      count = cited 𝓤 H (Count 𝓤 H (𝓖 .A) (𝓜 .mem) (𝓡 .run)) 𝓜 𝓡 code.env #count count-def.routine code.calls-line·reading·form-count (count-thm.met 𝓤 H 𝓜 𝓖 𝓡);
+      count = cited 𝓤 H (Count 𝓤 H (𝓖 .A) (𝓜 .mem) (𝓡 .run)) 𝓜 𝓡 code.env #count count-def.routine code.calls-shapes·form-count (count-thm.met 𝓤 H 𝓜 𝓖 𝓡);
       zeros = cited 𝓤 H (Zeros 𝓤 H (𝓖 .A) (𝓜 .mem) (𝓡 .run)) 𝓜 𝓡 code.env #zeros zeros-def.routine code.calls-line·reading·no-values (zeros-thm.met 𝓤 H 𝓜 𝓖 𝓡);
       new = cited 𝓤 H (New 𝓤 H (𝓖 .A) (𝓜 .mem) (𝓡 .run)) 𝓜 𝓡 code.env #new new-def.routine code.calls-fields·LineReader·new (new-thm.met 𝓤 H 𝓜 𝓖 𝓡);
       next = cited 𝓤 H (Next 𝓤 H (𝓖 .A) (𝓜 .mem) (𝓡 .run)) 𝓜 𝓡 code.env #next next-def.routine code.calls-fields·LineReader·next (next-thm.met 𝓤 H 𝓜 𝓖 𝓡);

@@ -1,0 +1,4 @@
+pub mod Texts
+pub mod FieldTexts
+pub mod LineTexts
+pub mod Widths
