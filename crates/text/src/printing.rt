@@ -4,20 +4,13 @@ use meaning::Answer;
 use meaning::Verdict;
 use writing::Written;
 use writing::add;
-use writing::add_number;
+use writing::add_numbers;
 use writing::blank;
 ghost use mathlib.Core.Path.{_≡_};
 ghost use Rattle.meaning.specs.Printing.{verdictText};
 ghost use Rattle.meaning.specs.declared.Answer.the-variants.{Judged};
 ghost use Rattle.writing.specs.Written.{writtenAs};
-ghost use Rattle.text.specs.Printed.{Numbered, Prints};
-
-// A comma and a number of one byte more.
-fn add_byte(w: Written, n: u8) -> Written
-    ensures { λ r. ⌜ Numbered w n r ⌝ }
-{
-    add_number(add(w, b','), wide(n))
-}
+ghost use Rattle.text.specs.Printed.{Prints};
 
 // V and the verdict, A accepted or R rejected.
 fn verdict_text(rejected: bool) -> Written
@@ -38,9 +31,17 @@ fn print_verdict(v: Verdict) -> Written
     let validation = v.validation;
     let party = v.party;
     let p = verdict_text(v.rejected);
-    let q = add_byte(add_byte(p, rejection.number), rejection.sequence);
-    let s = add_byte(add_byte(q, validation.number), validation.sequence);
-    add_byte(add_byte(s, party.number), party.sequence)
+    add_numbers(
+        p,
+        &[
+            wide(rejection.number),
+            wide(rejection.sequence),
+            wide(validation.number),
+            wide(validation.sequence),
+            wide(party.number),
+            wide(party.sequence),
+        ],
+    )
 }
 
 // K for an edit; F and the refusal; or V and the verdict.
@@ -49,7 +50,7 @@ pub fn print(answer: Answer) -> Written
 {
     match answer {
         Answer::Taken => add(blank(), b'K'),
-        Answer::Refused(n) => add_byte(add(blank(), b'F'), n),
+        Answer::Refused(n) => add_numbers(add(blank(), b'F'), &[wide(n)]),
         Answer::Judged(v) => print_verdict(v),
     }
 }

@@ -10,6 +10,7 @@ use borrow.Author.Tests.{lt-ltb, le-ltb}
 use Rattle.tables.specs.Padded.{padded}
 use Rattle.tables.proofs.Padding.{length-padded}
 use Rattle.meaning.specs.Text.{numeral}
+use Rattle.meaning.specs.Printing.{listed}
 use Rattle.meaning.proofs.Numerals.{numeral-one, numeral-more}
 use Rattle.writing.specs.Written.{space, nothing, added, addedAll, writtenAs, Holds}
 use Rattle.writing.specs.declared.bytes.Written.{Written}
@@ -63,6 +64,19 @@ module _ (w : Written) {r : Written} {d : ℕ} (n : ℕ) where
 
   pub more-digits : {v : Written} → 10 ≤ n → v ≡ addedAll w (numeral (n / 10)) → d ≡ 48 + n % 10 → r ≡ added v d → r ≡ addedAll w (numeral n)
   more-digits {v} h a e f = rw (numeral-more n h, ← then w (numeral (n / 10)) ((48 + n % 10) ∷ []), ← a, ← e, ← one v d) f
+
+-- before number i of a list: what is written, with the numbers that are left, gives the whole
+pub record ListTo (w : Written) (ns : List ℕ) (v : Written) (i : ℕ) : Type 0 where
+  pub left : addedAll v (listed (drop i ns)) ≡ addedAll w (listed ns)
+
+module _ {w v : Written} {ns : List ℕ} {i : ℕ} where
+  pub list-next : {q u : Written} → ListTo w ns v i → i < length ns → u ≡ addedAll q (numeral (getD ns i 0)) → q ≡ added v 44 → ListTo w ns u (i + 1)
+  unfolding addedAll listed
+  list-next r h e a = record { left = rw (e, a, then, add-one i) (rw (drop-cons ns i 0 h) at (r .left)) }
+
+  pub list-end : ListTo w ns v i → length ns ≤ i → v ≡ addedAll w (listed ns)
+  unfolding addedAll listed
+  list-end r h = rw (drop-of-length-le ns h) at (r .left)
 
 -- ---- a text that fits stands in front, with its length
 

@@ -10,9 +10,11 @@ use borrow.Author.Tests.{leb-true, ltb-true, ltb-false, ne-eqb}
 use Rattle.tables.proofs.Counts.{cases, both}
 use Rattle.meaning.specs.Text.{numeral, spelled}
 use Rattle.meaning.specs.Fields.{within}
+use Rattle.meaning.specs.Printing.{listed}
 use Rattle.meaning.specs.Forms.{Form, upTo, code, day, letters, oneOf, optional, holds, holdsAll, Shape, shapeQ, shapes}
 use Rattle.meaning.specs.Writing.{write, writeAll, written}
 use Rattle.meaning.proofs.Numerals.{numeral-one, numeral-more}
+use Rattle.meaning.proofs.Shapes.{Each}
 use Rattle.shapes.specs.Table.{shapeAt}
 use Rattle.shapes.proofs.TableRule.{every-at, letter-text}
 use Rattle.tables.specs.Count.{every}
@@ -48,6 +50,13 @@ no-more-digits (suc k) n m h j =
   where
     some-digit : (m : ℕ) → 1 ≤ length (numeral m)
     some-digit m = cases (ltb m 10) (λ e. rw (numeral-one m (ltb-true m 10 e)) (omega arith)) (λ e. omega (arith, one-more-digit m (ltb-false m 10 e)))
+
+-- numbers of one byte, each behind a comma
+pub listed-short : (ns : List ℕ) → Each (λ n. n < 256) ns → length (listed ns) ≤ 4 * length ns
+unfolding listed
+listed-short [] h = omega arith
+listed-short (n ∷ ns) h =
+    omega (arith, length-append (numeral n) (listed ns), few-digits 2 n (omega (arith, h .0)), listed-short ns (h .1))
 
 -- ---- the most bytes of a field, and of a line
 

@@ -2,6 +2,7 @@
 ghost use Prim.Native.Nat.{_+_, _<_};
 ghost use mathlib.Core.Path.{_≡_};
 ghost use Rattle.meaning.specs.Text.{numeral};
+ghost use Rattle.meaning.specs.Printing.{listed};
 ghost use Rattle.writing.specs.Written.{nothing, added, addedAll};
 
 // The longest line has 80 bytes.
@@ -64,4 +65,17 @@ pub fn add_number(w: Written, n: u32) -> Written
     }
     let v = add_number(w, n / 10);
     add(v, digit(n % 10))
+}
+
+// Numbers more, each behind a comma.
+pub fn add_numbers(w: Written, numbers: &[u32]) -> Written
+    ensures { λ r. ⌜ r ≡ addedAll w (listed (now (numbers .entry))) ⌝ }
+{
+    let mut v = w;
+    let mut i = 0;
+    while i < numbers.len() {
+        v = add_number(add(v, b','), numbers[i]);
+        i += 1;
+    }
+    v
 }

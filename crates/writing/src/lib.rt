@@ -8,6 +8,7 @@ pub use bytes::SPACE;
 pub use bytes::Written;
 pub use bytes::add;
 pub use bytes::add_number;
+pub use bytes::add_numbers;
 pub use bytes::blank;
 pub use forms::add_field;
 pub use whole::write_line;

@@ -17,6 +17,8 @@ print-spec =
     (λ c κs. search needs)
     (λ c. search needs)
     (λ c κs. search needs)
+    (λ c. search needs)
+    (λ c κs. search needs)
     (λ c. search taken)
     (λ c. search refusal)
     (λ c. search judged))

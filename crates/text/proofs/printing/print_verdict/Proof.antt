@@ -15,4 +15,6 @@ print-verdict-spec =
     (λ c κs. search needs)
     (λ c κs. search needs)
     (λ c κs. search needs)
+    (λ c. search needs)
+    (λ c κs. search needs)
     (λ c. search verdict))
