@@ -64,8 +64,7 @@ use mathlib.Core.Bool.{{Bool, _&&_}}
 use mathlib.Core.List.{{List, [], _∷_}}
 use Rattle.tables.specs.Table.{{Table}}
 use Rattle.meaning.specs.Records as M
-use Rattle.places.specs.Layout.{{{each("NAMEPlaces, NAMEBase, NAMEWidth, NAMEWidths, NAMENumbers, NAMEFrom, NAMEAt, putCAP", ", ")}}}
-{each("use Rattle.places.specs.declared.STRUCT.{STRUCT}" + chr(10))}use Rattle.records.specs.Said.{{{each("NAMEOf", ", ")}}}
+{each("use Rattle.places.specs.Layout.{NAMEPlaces, NAMEBase, NAMEWidth, NAMEWidths, NAMENumbers, NAMEFrom, NAMEAt, putCAP}" + chr(10))}{each("use Rattle.places.specs.declared.STRUCT.{STRUCT}" + chr(10))}use Rattle.records.specs.Said.{{{each("NAMEOf", ", ")}}}
 use Rattle.records.specs.Free.{{{each("NAMEZero", ", ")}}}
 
 pub data TableName : Type 0 where

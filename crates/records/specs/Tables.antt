@@ -5,7 +5,10 @@ use mathlib.Core.Bool.{Bool, _&&_}
 use mathlib.Core.List.{List, [], _∷_}
 use Rattle.tables.specs.Table.{Table}
 use Rattle.meaning.specs.Records as M
-use Rattle.places.specs.Layout.{typePlaces, typeBase, typeWidth, typeWidths, typeNumbers, typeFrom, typeAt, putType, rulePlaces, ruleBase, ruleWidth, ruleWidths, ruleNumbers, ruleFrom, ruleAt, putRule, rowPlaces, rowBase, rowWidth, rowWidths, rowNumbers, rowFrom, rowAt, putRow, periodPlaces, periodBase, periodWidth, periodWidths, periodNumbers, periodFrom, periodAt, putPeriod}
+use Rattle.places.specs.Layout.{typePlaces, typeBase, typeWidth, typeWidths, typeNumbers, typeFrom, typeAt, putType}
+use Rattle.places.specs.Layout.{rulePlaces, ruleBase, ruleWidth, ruleWidths, ruleNumbers, ruleFrom, ruleAt, putRule}
+use Rattle.places.specs.Layout.{rowPlaces, rowBase, rowWidth, rowWidths, rowNumbers, rowFrom, rowAt, putRow}
+use Rattle.places.specs.Layout.{periodPlaces, periodBase, periodWidth, periodWidths, periodNumbers, periodFrom, periodAt, putPeriod}
 use Rattle.places.specs.declared.RestrictionType.{RestrictionType}
 use Rattle.places.specs.declared.Rule.{Rule}
 use Rattle.places.specs.declared.Row.{Row}

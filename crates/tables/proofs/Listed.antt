@@ -8,11 +8,11 @@ use lib.Dec.{lit<}
 use lib.ListN.{length, replicate}
 use Rattle.tables.specs.Bytes.{Width, one, two, three, four, Hold, zeros}
 use Rattle.tables.specs.Count.{count, without, change, Same}
-use Rattle.tables.specs.Table.{Table, address, end, vacant, listOf, placeOf, Lies, Fits, Apart}
-use Rattle.tables.proofs.Lone.{lone-same, lone-removed, lone-changed, lone-still, lone-added}
+use Rattle.tables.specs.Table.{Table, address, end, vacant, listOf, placeOf, Lies, Fits}
+use Rattle.tables.proofs.Lone.{lone-removed, lone-changed, lone-still, lone-added}
 use Rattle.tables.proofs.Found as F
 use Rattle.tables.proofs.Zeros.{numbers-zeros, lone-none}
-use Rattle.tables.proofs.Stored.{back, other, apart}
+use Rattle.tables.proofs.Stored.{back, other}
 
 zeros-hold : (ws : List Width) → Hold ws (replicate (length ws) 0)
 zeros-hold [] = tt
@@ -41,12 +41,6 @@ module _ {P R : Type 0} (t : Table P R) (f : Lies t) where
   -- ---- a store at place i
 
   module _ (b : List ℕ) (i : ℕ) (place : i < t .places) where
-    -- in another table
-    pub list-apart : {Q S : Type 0} (u : Table Q S) (g : Lies u) → Apart t u → (r : P) (a : ℕ)
-        → listOf u a (t .put b i r) ≡ listOf u a b
-    list-apart u g x r a =
-        lone-same (u .csd) (u .rec) a (u .at b) (u .at (t .put b i r)) (u .places) (λ k l. apart t f b i r u g k x place l)
-
     module _ (inside : end t ≤ length b) (r : P) (fits : Fits t r) where
       stands : t .at (t .put b i r) i ≡ r
       stands = back t f b i r fits place inside
