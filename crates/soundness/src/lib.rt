@@ -1,6 +1,12 @@
 // Whether a lent book is sound, in a time that grows with the places used. A place is compared only with those before
 // it in its chain (crates/chains/specs/Chains.antt): the first place that is not right ends the test, so no chain is
 // longer than a quota.
+mod alike;
+mod buckets;
+mod fits;
+mod free;
+mod words;
+
 ghost use mathlib.Core.Path.{_≡_};
 ghost use mathlib.Core.Bool.{_&&_};
 ghost use Prim.Native.Nat.{_+_, _*_, _≤_};
