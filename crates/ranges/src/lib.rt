@@ -21,13 +21,13 @@ use records::filled_count;
 // ---- Ranges (document 01, 'Lines').
 
 // First is not after last.
-fn days_fit(first: u32, last: u32) -> bool
+pub fn days_fit(first: u32, last: u32) -> bool
     ensures { λ r. ⌜ r ≡ daysFit first last ⌝ }
 {
     and(is_day(first), and(is_day(last), first <= last))
 }
 
-fn key_fits(number: u8, object: u8) -> bool
+pub fn key_fits(number: u8, object: u8) -> bool
     ensures { λ r. ⌜ r ≡ keyFits number object ⌝ }
 {
     let numbered = byte_within(1, 99, number);
@@ -89,7 +89,7 @@ fn four_letters(n: u32) -> bool
 }
 
 // Attribute × 100 + value, each 1 to 99.
-fn is_code(n: u32) -> bool
+pub fn is_code(n: u32) -> bool
     ensures { λ r. ⌜ r ≡ holds code n ⌝ }
 {
     and(within(1, 99, n / 100), within(1, 99, n % 100))
@@ -97,25 +97,25 @@ fn is_code(n: u32) -> bool
 
 // A value of a row is 0 where it is empty.
 
-fn up_to_or(n: u32, most: u32) -> bool
+pub fn up_to_or(n: u32, most: u32) -> bool
     ensures { λ r. ⌜ r ≡ holds (optional (upTo most)) n ⌝ }
 {
     or(n == 0, within(1, most, n))
 }
 
-fn code_or(n: u32) -> bool
+pub fn code_or(n: u32) -> bool
     ensures { λ r. ⌜ r ≡ holds (optional code) n ⌝ }
 {
     or(n == 0, is_code(n))
 }
 
-fn transaction_or(n: u32) -> bool
+pub fn transaction_or(n: u32) -> bool
     ensures { λ r. ⌜ r ≡ holds (optional transactionForm) n ⌝ }
 {
     or(n == 0, four_letters(n))
 }
 
-fn currency_or(n: u32) -> bool
+pub fn currency_or(n: u32) -> bool
     ensures { λ r. ⌜ r ≡ holds (optional currencyForm) n ⌝ }
 {
     or(n == 0, three_letters(n))

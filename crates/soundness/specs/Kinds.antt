@@ -1,13 +1,17 @@
 -- The tables of the book by kind: where their places are, and what soundness asks of the record at an address. A new
 -- table adds a line to each definition. Assumes nothing.
-use Prim.Native.Nat.{ℕ, _+_, _*_}
-use mathlib.Core.Bool.{Bool, _&&_}
+use Prim.Native.Nat.{ℕ, _+_, _*_, _<_}
+use mathlib.Core.Path.{_≡_}
+use mathlib.Core.Bool.{Bool, true, _&&_, cond}
 use mathlib.Core.List.{List}
+use lib.ListN.{length}
+use Rattle.tables.specs.Count.{allBelow}
 use Rattle.tables.specs.Bytes.{byteAt}
 use Rattle.tables.specs.Below.{anyBelow}
 use Rattle.meaning.specs.Records.{typeQuota, ruleQuota, rowQuota, periodQuota}
 use Rattle.meaning.specs.Sound.{typeFits, ruleFits, rowFits, periodFits}
 use Rattle.places.specs.Layout.{
+  bookSize,
   typeBase,
   typeWidth,
   typePlaces,
@@ -25,6 +29,7 @@ use Rattle.places.specs.Layout.{
 }
 use Rattle.records.specs.Said.{typeOf, ruleOf, rowOf, periodOf}
 use Rattle.records.specs.Free.{typeZero, ruleZero, rowZero, periodZero}
+use Rattle.chains.specs.Sizes.{buckets}
 use Rattle.chains.specs.Chains.{right, Chained}
 use Rattle.soundness.specs.Reads.{typeRead, ruleRead, rowRead, periodRead}
 use Rattle.soundness.specs.Alike.{typeAlike, ruleAlike, rowAlike, periodAlike, typedBy, ruledBy}
@@ -102,6 +107,10 @@ module _ (b : List ℕ) where
   fitAt Kinds.Rows at = rowFits (rowOf (rowRead b at)) && ruledAt at
   fitAt Kinds.Periods at = periodFits (periodOf (periodRead b at))
 
+  -- its bucket where it is so; else the number of buckets
+  unfoldable pub loneAt : Kind → ℕ → ℕ
+  loneAt kind at = cond (fitAt kind at) (bucketAt kind at) buckets
+
   -- ---- the record at place i
 
   unfoldable pub csdOf : Kind → ℕ → ℕ
@@ -134,3 +143,22 @@ module _ (b : List ℕ) where
   OwnersChained Kinds.Rules starts links = ChainedOf Kinds.Types starts links typePlaces
   OwnersChained Kinds.Rows starts links = ChainedOf Kinds.Rules starts links rulePlaces
   OwnersChained Kinds.Periods starts links = Unit {0}
+
+-- place i of the table t, in a book of the exact size
+pub record PlaceOf (b : List ℕ) (t : Table) (i : ℕ) : Type 0 where
+  pub sized : length b ≡ bookSize
+  pub table : t ≡ tableOf (t .kind)
+  pub place : i < t .places
+
+-- ---- types and rules, with the rules' chains where all are right; and rows
+
+unfoldable pub rulesSound : List ℕ → Bool
+rulesSound b = allBelow (rightOf b Kinds.Types) typePlaces && allBelow (rightOf b Kinds.Rules) rulePlaces
+
+unfoldable pub rowsSound : List ℕ → Bool
+unfolding rulesSound
+rowsSound b = rulesSound b && allBelow (rightOf b Kinds.Rows) rowPlaces
+
+pub record RulesSound (b : List ℕ) (answer : Bool) (head next : List ℕ) : Type 0 where
+  pub answered : answer ≡ rulesSound b
+  pub chained : answer ≡ true → ChainedOf b Kinds.Rules head next rulePlaces

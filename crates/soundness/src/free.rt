@@ -1,0 +1,80 @@
+// Free places: all their bytes are 0 (document 01, 'Records').
+use crate::words::eight;
+use crate::words::four;
+use crate::words::two;
+ghost use mathlib.Core.Path.{_≡_};
+ghost use Prim.Native.Nat.{_+_, _*_, _≤_};
+ghost use lib.ListN.{length};
+ghost use Rattle.chains.specs.Sizes.{blockPlaces};
+ghost use Rattle.chains.specs.Blocks.{zeroFrom};
+ghost use Rattle.places.specs.Layout.{typeWidth, ruleWidth, rowWidth, periodWidth};
+ghost use Rattle.records.specs.Free.{typeZero, ruleZero, rowZero, periodZero};
+ghost use Rattle.soundness.specs.Reads.{typeRead, ruleRead, rowRead, periodRead};
+
+pub fn type_free(b: &[u8], at: usize) -> bool
+    requires { ⌜ at + typeWidth ≤ length (now b) ⌝ }
+    ensures { λ r. ⌜ r ≡ typeZero (typeRead (now (b .entry)) at) ⌝ }
+{
+    if eight(b, at, 0) != 0 {
+        return false;
+    }
+    four(b, at, 8) == 0
+}
+
+pub fn rule_free(b: &[u8], at: usize) -> bool
+    requires { ⌜ at + ruleWidth ≤ length (now b) ⌝ }
+    ensures { λ r. ⌜ r ≡ ruleZero (ruleRead (now (b .entry)) at) ⌝ }
+{
+    if eight(b, at, 0) != 0 {
+        return false;
+    }
+    eight(b, at, 7) == 0
+}
+
+pub fn row_free(b: &[u8], at: usize) -> bool
+    requires { ⌜ at + rowWidth ≤ length (now b) ⌝ }
+    ensures { λ r. ⌜ r ≡ rowZero (rowRead (now (b .entry)) at) ⌝ }
+{
+    if eight(b, at, 0) != 0 {
+        return false;
+    }
+    if eight(b, at, 8) != 0 {
+        return false;
+    }
+    if eight(b, at, 16) != 0 {
+        return false;
+    }
+    two(b, at, 24) == 0
+}
+
+pub fn period_free(b: &[u8], at: usize) -> bool
+    requires { ⌜ at + periodWidth ≤ length (now b) ⌝ }
+    ensures { λ r. ⌜ r ≡ periodZero (periodRead (now (b .entry)) at) ⌝ }
+{
+    if eight(b, at, 0) != 0 {
+        return false;
+    }
+    eight(b, at, 7) == 0
+}
+
+// ---- Sixteen places at once.
+
+// Whether n times eight bytes from an index on are all 0.
+fn words_zero(b: &[u8], from: usize, n: usize) -> bool
+    requires { ⌜ from + 8 * n ≤ length (now b) ⌝ }
+    ensures { λ r. ⌜ r ≡ zeroFrom (now (b .entry)) from (8 * n) ⌝ }
+{
+    let mut x: u64 = 0;
+    for j in 0..n {
+        x = x | eight(b, from, 8 * j);
+    }
+    x == 0
+}
+
+// Whether sixteen places of a width are free, which are twice as many times eight bytes.
+pub fn block_free(b: &[u8], from: usize, width: usize) -> bool
+    requires { ⌜ from + blockPlaces * width ≤ length (now b) ⌝ }
+    ensures { λ r. ⌜ r ≡ zeroFrom (now (b .entry)) from (blockPlaces * width) ⌝ }
+{
+    words_zero(b, from, 2 * width)
+}
