@@ -94,11 +94,11 @@ module _ (csd bucket : ℕ → ℕ) (places : ℕ) (good : ℕ → Bool) where
       → Ready csd bucket places i counts head next
   going-ready i counts head next g l = record { place = l; counted = g .counted; chained = g .chained }
 
-  pub going-on : (i : ℕ) (r x : Bool) (counts head next counts′ head′ next′ : List ℕ)
-      → Passed csd bucket good i r counts′ head′ next′ → x ≡ not r → x ≡ false → i < places
+  pub going-on : (i : ℕ) (r : Bool) (counts head next counts′ head′ next′ : List ℕ)
+      → Passed csd bucket good i r counts′ head′ next′ → not r ≡ false → i < places
       → Going csd bucket places good i counts head next → Going csd bucket places good (i + 1) counts′ head′ next′
-  going-on i r x counts head next counts′ head′ next′ m e f l g =
-      let y : r ≡ true = not-false r (sym e ∙ f) in
+  going-on i r counts head next counts′ head′ next′ m f l g =
+      let y : r ≡ true = not-false r f in
       record {
         few = omega arith;
         all = rw (all-more, g .all) (sym (m .answered) ∙ y);
@@ -108,11 +108,11 @@ module _ (csd bucket : ℕ → ℕ) (places : ℕ) (good : ℕ → Bool) where
 
   -- one place of sixteen fails, or all are passed
 
-  pub block-fails : (from i : ℕ) (r x : Bool) (counts′ head′ next′ : List ℕ)
-      → Passed csd bucket good i r counts′ head′ next′ → x ≡ not r → x ≡ true → i < from + blockPlaces
+  pub block-fails : (from i : ℕ) (r : Bool) (counts′ head′ next′ : List ℕ)
+      → Passed csd bucket good i r counts′ head′ next′ → not r ≡ true → i < from + blockPlaces
       → from + blockPlaces ≤ places → Block csd bucket places good from false counts′ head′ next′
-  block-fails from i r x counts′ head′ next′ m e f l h =
-      let y : r ≡ false = not-true r (sym e ∙ f) in
+  block-fails from i r counts′ head′ next′ m f l h =
+      let y : r ≡ false = not-true r f in
       record {
         going = λ t. absurd (false≢true t);
         fails = λ t. cases (allBelow good places) (λ u. absurd (false≢true (sym y ∙ m .answered ∙ all-at good places u i (omega arith)))) (λ u. u);
@@ -124,15 +124,15 @@ module _ (csd bucket : ℕ → ℕ) (places : ℕ) (good : ℕ → Bool) where
 
   -- the loop over blocks
 
-  pub blocks-on : (i : ℕ) (r x : Bool) (counts head next : List ℕ) → Block csd bucket places good i r counts head next
-      → x ≡ not r → x ≡ false → Going csd bucket places good (i + blockPlaces) counts head next
-  blocks-on i r x counts head next m e f = m .going (not-false r (sym e ∙ f))
+  pub blocks-on : (i : ℕ) (r : Bool) (counts head next : List ℕ) → Block csd bucket places good i r counts head next
+      → not r ≡ false → Going csd bucket places good (i + blockPlaces) counts head next
+  blocks-on i r counts head next m f = m .going (not-false r f)
 
-  pub blocks-fail : (i : ℕ) (r x : Bool) (counts head next : List ℕ)
-      → Block csd bucket places good i r counts head next → x ≡ not r → x ≡ true
+  pub blocks-fail : (i : ℕ) (r : Bool) (counts head next : List ℕ)
+      → Block csd bucket places good i r counts head next → not r ≡ true
       → AllPassed csd bucket places good false head next
-  blocks-fail i r x counts head next m e f =
-      record { answered = sym (m .fails (not-true r (sym e ∙ f))); chained = λ t. absurd (false≢true t) }
+  blocks-fail i r counts head next m f =
+      record { answered = sym (m .fails (not-true r f)); chained = λ t. absurd (false≢true t) }
 
   pub going-end : (i : ℕ) (counts head next : List ℕ) → Going csd bucket places good i counts head next → places ≤ i
       → AllPassed csd bucket places good true head next

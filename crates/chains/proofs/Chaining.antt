@@ -48,45 +48,43 @@ unfolding anyBelow
 any-on p zero h = absurd (h refl)
 any-on p (suc j) h = let d : suc j - 1 ≡ j = omega arith in rw d
 
--- ---- walking the chain of a bucket, where only places of the bucket are asked for
+-- ---- walking the chain of a bucket
 
-module _ (csd bucket : ℕ → ℕ) (k : ℕ) (p : ℕ → Bool) (i : ℕ) (only : (j : ℕ) → p j ≡ true → inBucket csd bucket k j ≡ true) where
-  walk-last : (n j : ℕ) → j ≡ lastBelow (inBucket csd bucket k) n → n ≤ i → anyBelow p n ≡ anyBelow p i
-      → Walking csd bucket k p i j
-  walk-last n j e l a = record {
+module _ (csd bucket : ℕ → ℕ) (k : ℕ) (p : ℕ → Bool) (i : ℕ) where
+  walk-last : (n j : ℕ) → ((x : ℕ) → p x ≡ true → inBucket csd bucket k x ≡ true)
+      → j ≡ lastBelow (inBucket csd bucket k) n → n ≤ i → anyBelow p n ≡ anyBelow p i → Walking csd bucket k p i j
+  walk-last n j only e l a = record {
+    only = only;
     few = omega (arith, last-few (inBucket csd bucket k) n);
     here = λ h. rw e (last-here (inBucket csd bucket k) n (λ z. h (e ∙ z)));
     left = rw e (last-any (inBucket csd bucket k) p only n ∙ a);
   }
 
-  pub walk-start : (j : ℕ) (head next : List ℕ) → Chained csd bucket head next i → k < buckets → j ≡ getD head k 0
-      → Walking csd bucket k p i j
-  walk-start j head next m l e = walk-last i j (e ∙ m .starts k l) (omega arith) refl
+  pub walk-start : (head next : List ℕ) → ((x : ℕ) → p x ≡ true → inBucket csd bucket k x ≡ true)
+      → Chained csd bucket head next i → k < buckets → Walking csd bucket k p i (getD head k 0)
+  walk-start head next only m l = walk-last i (getD head k 0) only (m .starts k l) (omega arith) refl
 
   -- what follows place j - 1
-  walk-next : (j j′ : ℕ) (head next : List ℕ) → Chained csd bucket head next i → Walking csd bucket k p i j
-      → (j ≡ 0 → ⊥) → j′ ≡ getD next (j - 1) 0 → j′ ≡ lastBelow (inBucket csd bucket k) (j - 1)
-  walk-next j j′ head next m w h e =
+  walk-next : (j : ℕ) (head next : List ℕ) → Chained csd bucket head next i → Walking csd bucket k p i j
+      → (j ≡ 0 → ⊥) → getD next (j - 1) 0 ≡ lastBelow (inBucket csd bucket k) (j - 1)
+  walk-next j head next m w h =
       let t = both (not (eqb (csd (j - 1)) 0)) (eqb (bucket (j - 1)) k) (w .here h) in
       let u : 1 ≤ j = cases-eq j 0 (λ z. absurd (h z)) (λ z. omega (arith, z)) in
-      e
-      ∙ m .follows (j - 1) (omega (arith, w .few)) (λ z. false≢true (ap (λ x. not (eqb x 0)) (sym z) ∙ t .0))
+      m .follows (j - 1) (omega (arith, w .few)) (λ z. false≢true (ap (λ x. not (eqb x 0)) (sym z) ∙ t .0))
       ∙ ap (λ x. lastBelow (inBucket csd bucket x) (j - 1)) (eqb-true (bucket (j - 1)) k (t .1))
 
-  pub walk-on : (j j′ : ℕ) (r : Bool) (head next : List ℕ) → Chained csd bucket head next i
-      → Walking csd bucket k p i j → (j ≡ 0 → ⊥) → r ≡ p (j - 1) → r ≡ false → j′ ≡ getD next (j - 1) 0
-      → Walking csd bucket k p i j′
-  walk-on j j′ r head next m w h e f g =
-      walk-last (j - 1) j′ (walk-next j j′ head next m w h g) (omega (arith, w .few))
+  pub walk-on : (j : ℕ) (r : Bool) (head next : List ℕ) → Chained csd bucket head next i → Walking csd bucket k p i j
+      → (j ≡ 0 → ⊥) → r ≡ p (j - 1) → r ≡ false → Walking csd bucket k p i (getD next (j - 1) 0)
+  walk-on j r head next m w h e f =
+      walk-last (j - 1) (getD next (j - 1) 0) (w .only) (walk-next j head next m w h) (omega (arith, w .few))
       (sym (any-on p j h ∙ ap (λ x. x || anyBelow p (j - 1)) (sym e ∙ f)) ∙ w .left)
 
-  pub walk-less : (j j′ : ℕ) (head next : List ℕ) → Chained csd bucket head next i → Walking csd bucket k p i j
-      → (j ≡ 0 → ⊥) → j′ ≡ getD next (j - 1) 0 → j′ < j
-  walk-less j j′ head next m w h e =
+  pub walk-less : (j : ℕ) (head next : List ℕ) → Chained csd bucket head next i → Walking csd bucket k p i j
+      → (j ≡ 0 → ⊥) → getD next (j - 1) 0 < j
+  walk-less j head next m w h =
       let u : 1 ≤ j = cases-eq j 0 (λ z. absurd (h z)) (λ z. omega (arith, z)) in
-      omega (arith, walk-next j j′ head next m w h e, last-few (inBucket csd bucket k) (j - 1))
+      omega (arith, walk-next j head next m w h, last-few (inBucket csd bucket k) (j - 1))
 
-module _ (csd bucket : ℕ → ℕ) (k : ℕ) (p : ℕ → Bool) (i : ℕ) where
   pub walk-end : (j : ℕ) → Walking csd bucket k p i j → j ≡ 0 → false ≡ anyBelow p i
   unfolding anyBelow
   walk-end j w e = rw e at (w .left)

@@ -1,6 +1,6 @@
 -- The tables of the book by kind: where their places are, and what soundness asks of the record at an address. A new
 -- table adds a line to each definition. Assumes nothing.
-use Prim.Native.Nat.{ℕ, _+_, _*_, _<_}
+use Prim.Native.Nat.{ℕ, _+_, _*_, _≤_, _<_}
 use mathlib.Core.Path.{_≡_}
 use mathlib.Core.Bool.{Bool, true, _&&_, cond}
 use mathlib.Core.List.{List}
@@ -29,7 +29,7 @@ use Rattle.places.specs.Layout.{
 }
 use Rattle.records.specs.Said.{typeOf, ruleOf, rowOf, periodOf}
 use Rattle.records.specs.Free.{typeZero, ruleZero, rowZero, periodZero}
-use Rattle.chains.specs.Sizes.{buckets}
+use Rattle.chains.specs.Sizes.{buckets, mostPlaces}
 use Rattle.chains.specs.Chains.{right, Chained}
 use Rattle.soundness.specs.Reads.{typeRead, ruleRead, rowRead, periodRead}
 use Rattle.soundness.specs.Alike.{typeAlike, ruleAlike, rowAlike, periodAlike, typedBy, ruledBy}
@@ -92,19 +92,19 @@ module _ (b : List ℕ) where
   alikeAt Kinds.Rows at other = rowAlike (rowRead b at) (rowRead b other)
   alikeAt Kinds.Periods at other = periodAlike (periodRead b at) (periodRead b other)
 
-  -- whether a rule has its type, and a row its rule, whose criteria it fills
+  -- whether place j has the rule's type, or the row's rule, whose criteria it fills
 
-  unfoldable pub typedAt : ℕ → Bool
-  typedAt at = anyBelow (λ j. typedBy (ruleRead b at) (typeRead b (typeStart j))) typePlaces
+  unfoldable pub typedIn : ℕ → ℕ → Bool
+  typedIn at j = typedBy (ruleRead b at) (typeRead b (typeStart j))
 
-  unfoldable pub ruledAt : ℕ → Bool
-  ruledAt at = anyBelow (λ j. ruledBy (rowRead b at) (ruleRead b (ruleStart j))) rulePlaces
+  unfoldable pub ruledIn : ℕ → ℕ → Bool
+  ruledIn at j = ruledBy (rowRead b at) (ruleRead b (ruleStart j))
 
   -- its range, and that it has its owner
   unfoldable pub fitAt : Kind → ℕ → Bool
   fitAt Kinds.Types at = typeFits (typeOf (typeRead b at))
-  fitAt Kinds.Rules at = ruleFits (ruleOf (ruleRead b at)) && typedAt at
-  fitAt Kinds.Rows at = rowFits (rowOf (rowRead b at)) && ruledAt at
+  fitAt Kinds.Rules at = ruleFits (ruleOf (ruleRead b at)) && anyBelow (typedIn at) typePlaces
+  fitAt Kinds.Rows at = rowFits (rowOf (rowRead b at)) && anyBelow (ruledIn at) rulePlaces
   fitAt Kinds.Periods at = periodFits (periodOf (periodRead b at))
 
   -- its bucket where it is so; else the number of buckets
@@ -148,6 +148,7 @@ module _ (b : List ℕ) where
 pub record PlaceOf (b : List ℕ) (t : Table) (i : ℕ) : Type 0 where
   pub sized : length b ≡ bookSize
   pub table : t ≡ tableOf (t .kind)
+  pub few : t .places ≤ mostPlaces
   pub place : i < t .places
 
 -- ---- types and rules, with the rules' chains where all are right; and rows

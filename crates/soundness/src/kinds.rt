@@ -14,6 +14,7 @@ use places::Rule;
 ghost use mathlib.Core.Path.{_≡_};
 ghost use Prim.Native.Nat.{_+_, _≤_};
 ghost use lib.ListN.{length};
+ghost use Rattle.chains.specs.Sizes.{mostPlaces};
 ghost use Rattle.soundness.specs.Kinds.{tableOf, freeAt, alikeAt};
 
 pub enum Kind {
@@ -81,6 +82,7 @@ fn periods() -> Table
 
 pub fn table_of(kind: Kind) -> Table
     ensures { λ r. ⌜ r ≡ tableOf kind ⌝ }
+    ensures { λ r. ⌜ r .places ≤ mostPlaces ⌝ }
 {
     match kind {
         Kind::Types => types(),

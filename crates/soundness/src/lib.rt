@@ -56,16 +56,18 @@ fn counted(counts: &mut [u16], csd: u8, quota: u16) -> bool
 // Whether a place before place i, whose bucket is k, has a record that cannot stand beside that of place i.
 fn held(b: &[u8], t: Table, i: u16, k: usize, head: &[u16], next: &[u16]) -> bool
     requires { ⌜ PlaceOf (now b) t i ⌝ }
-    requires { ⌜ csdOf (now b) (t .kind) i ≡ 0 → ⊥ ⌝ }
+    requires { ⌜ (csdOf (now b) (t .kind) i ≡ 0 → ⊥) ⌝ }
     requires { ⌜ k ≡ bucketOf (now b) (t .kind) i ⌝ }
+    requires { ⌜ k + 1 ≤ buckets ⌝ }
     requires { ⌜ ChainedOf (now b) (t .kind) (now head) (now next) i ⌝ }
     ensures { λ r. ⌜ r ≡ anyBelow (sameOf (now (b .entry)) (t .kind) i) i ⌝ }
 {
+    let kind = t.kind;
     let at = address(t.start, t.width, i) as usize;
     let mut j = head[k];
     while j != 0 {
         let other = address(t.start, t.width, j - 1);
-        if alike(b, t.kind, at, other as usize) {
+        if alike(b, kind, at, other as usize) {
             return true;
         }
         j = next[(j - 1) as usize];
@@ -101,15 +103,16 @@ fn pass(
     requires { ⌜ Ready (csdOf (now b) (t .kind)) (bucketOf (now b) (t .kind)) (tableOf (t .kind) .places) i (now counts) (now head) (now next) ⌝ }
     ensures { λ r. ⌜ Passed (csdOf (now (b .entry)) (t .kind)) (bucketOf (now (b .entry)) (t .kind)) (rightOf (now (b .entry)) (t .kind)) i r (now (counts .exit)) (now (head .exit)) (now (next .exit)) ⌝ }
 {
+    let kind = t.kind;
     let at = address(t.start, t.width, i) as usize;
     let csd = b[at];
     if csd == 0 {
-        return place_free(b, t.kind, at);
+        return place_free(b, kind, at);
     }
     if !counted(counts, csd, t.quota) {
         return false;
     }
-    let k = lone(b, t.kind, at, starts, links);
+    let k = lone(b, kind, at, starts, links);
     if k == BUCKETS {
         return false;
     }
@@ -122,7 +125,32 @@ fn pass(
 
 // ---- The places of a table.
 
-// A block of places from one on; at once where they are all zero.
+// A block of places from one on, one after the other.
+fn pass_each(
+    b: &[u8],
+    t: Table,
+    from: u16,
+    starts: &[u16],
+    links: &[u16],
+    counts: &mut [u16],
+    head: &mut [u16],
+    next: &mut [u16],
+) -> bool
+    requires { ⌜ PlaceOf (now b) t from ⌝ }
+    requires { ⌜ from + blockPlaces ≤ t .places ⌝ }
+    requires { ⌜ OwnersChained (now b) (t .kind) (now starts) (now links) ⌝ }
+    requires { ⌜ Going (csdOf (now b) (t .kind)) (bucketOf (now b) (t .kind)) (tableOf (t .kind) .places) (rightOf (now b) (t .kind)) from (now counts) (now head) (now next) ⌝ }
+    ensures { λ r. ⌜ Block (csdOf (now (b .entry)) (t .kind)) (bucketOf (now (b .entry)) (t .kind)) (tableOf (t .kind) .places) (rightOf (now (b .entry)) (t .kind)) from r (now (counts .exit)) (now (head .exit)) (now (next .exit)) ⌝ }
+{
+    for i in from..from + BLOCK {
+        if !pass(b, t, i, starts, links, counts, head, next) {
+            return false;
+        }
+    }
+    true
+}
+
+// A block of places; at once where they are all zero.
 fn pass_block(
     b: &[u8],
     t: Table,
@@ -134,7 +162,7 @@ fn pass_block(
     next: &mut [u16],
 ) -> bool
     requires { ⌜ PlaceOf (now b) t from ⌝ }
-    requires { ⌜ from + blockPlaces ≤ tableOf (t .kind) .places ⌝ }
+    requires { ⌜ from + blockPlaces ≤ t .places ⌝ }
     requires { ⌜ OwnersChained (now b) (t .kind) (now starts) (now links) ⌝ }
     requires { ⌜ Going (csdOf (now b) (t .kind)) (bucketOf (now b) (t .kind)) (tableOf (t .kind) .places) (rightOf (now b) (t .kind)) from (now counts) (now head) (now next) ⌝ }
     ensures { λ r. ⌜ Block (csdOf (now (b .entry)) (t .kind)) (bucketOf (now (b .entry)) (t .kind)) (tableOf (t .kind) .places) (rightOf (now (b .entry)) (t .kind)) from r (now (counts .exit)) (now (head .exit)) (now (next .exit)) ⌝ }
@@ -143,16 +171,18 @@ fn pass_block(
     if block_free(b, at, t.width as usize) {
         return true;
     }
-    for i in from..from + BLOCK {
-        if !pass(b, t, i, starts, links, counts, head, next) {
-            return false;
-        }
-    }
-    true
+    pass_each(b, t, from, starts, links, counts, head, next)
 }
 
 // All places of a table, whose owners' chains are lent; its own are left to the caller.
-fn all(b: &[u8], kind: Kind, starts: &[u16], links: &[u16], head: &mut [u16], next: &mut [u16]) -> bool
+fn all(
+    b: &[u8],
+    kind: Kind,
+    starts: &[u16],
+    links: &[u16],
+    head: &mut [u16],
+    next: &mut [u16],
+) -> bool
     requires { ⌜ length (now b) ≡ bookSize ⌝ }
     requires { ⌜ OwnersChained (now b) kind (now starts) (now links) ⌝ }
     requires { ⌜ Unchained (now head) (now next) ⌝ }

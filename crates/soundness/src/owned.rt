@@ -23,18 +23,19 @@ ghost use mathlib.Core.Path.{_≡_};
 ghost use mathlib.Core.Bool.{_&&_};
 ghost use Prim.Native.Nat.{_+_, _≤_};
 ghost use lib.ListN.{length};
+ghost use Rattle.tables.specs.Below.{anyBelow};
 ghost use Rattle.meaning.specs.Forms.{holdsAll, tenValues};
 ghost use Rattle.places.specs.Layout.{bookSize, typeWidth, ruleWidth, rowWidth, periodWidth, typePlaces, rulePlaces};
 ghost use Rattle.soundness.specs.Reads.{rowRead};
-ghost use Rattle.soundness.specs.Kinds.{tableOf, csdAt, typedAt, ruledAt, loneAt, ChainedOf, OwnersChained};
+ghost use Rattle.soundness.specs.Kinds.{tableOf, csdAt, typedIn, ruledIn, loneAt, ChainedOf, OwnersChained};
 
 // Whether a rule has its type.
 fn typed(b: &[u8], at: usize, starts: &[u16], links: &[u16]) -> bool
     requires { ⌜ length (now b) ≡ bookSize ⌝ }
     requires { ⌜ at + ruleWidth ≤ length (now b) ⌝ }
-    requires { ⌜ csdAt (now b) at ≡ 0 → ⊥ ⌝ }
+    requires { ⌜ (csdAt (now b) at ≡ 0 → ⊥) ⌝ }
     requires { ⌜ ChainedOf (now b) Kind.Types (now starts) (now links) typePlaces ⌝ }
-    ensures { λ r. ⌜ r ≡ typedAt (now (b .entry)) at ⌝ }
+    ensures { λ r. ⌜ r ≡ anyBelow (typedIn (now (b .entry)) at) typePlaces ⌝ }
 {
     let mut j = starts[type_bucket_of(b, at)];
     while j != 0 {
@@ -51,9 +52,9 @@ fn typed(b: &[u8], at: usize, starts: &[u16], links: &[u16]) -> bool
 fn ruled(b: &[u8], at: usize, starts: &[u16], links: &[u16]) -> bool
     requires { ⌜ length (now b) ≡ bookSize ⌝ }
     requires { ⌜ at + rowWidth ≤ length (now b) ⌝ }
-    requires { ⌜ csdAt (now b) at ≡ 0 → ⊥ ⌝ }
+    requires { ⌜ (csdAt (now b) at ≡ 0 → ⊥) ⌝ }
     requires { ⌜ ChainedOf (now b) Kind.Rules (now starts) (now links) rulePlaces ⌝ }
-    ensures { λ r. ⌜ r ≡ (holdsAll tenValues (rowRead (now (b .entry)) at .values) && ruledAt (now (b .entry)) at) ⌝ }
+    ensures { λ r. ⌜ r ≡ (holdsAll tenValues (rowRead (now (b .entry)) at .values) && anyBelow (ruledIn (now (b .entry)) at) rulePlaces) ⌝ }
 {
     let criteria = filled(b, at);
     if criteria == NO_CRITERIA {
@@ -86,7 +87,7 @@ fn lone_type(b: &[u8], at: usize) -> usize
 fn lone_rule(b: &[u8], at: usize, starts: &[u16], links: &[u16]) -> usize
     requires { ⌜ length (now b) ≡ bookSize ⌝ }
     requires { ⌜ at + ruleWidth ≤ length (now b) ⌝ }
-    requires { ⌜ csdAt (now b) at ≡ 0 → ⊥ ⌝ }
+    requires { ⌜ (csdAt (now b) at ≡ 0 → ⊥) ⌝ }
     requires { ⌜ ChainedOf (now b) Kind.Types (now starts) (now links) typePlaces ⌝ }
     ensures { λ r. ⌜ r ≡ loneAt (now (b .entry)) Kind.Rules at ⌝ }
 {
@@ -102,7 +103,7 @@ fn lone_rule(b: &[u8], at: usize, starts: &[u16], links: &[u16]) -> usize
 fn lone_row(b: &[u8], at: usize, starts: &[u16], links: &[u16]) -> usize
     requires { ⌜ length (now b) ≡ bookSize ⌝ }
     requires { ⌜ at + rowWidth ≤ length (now b) ⌝ }
-    requires { ⌜ csdAt (now b) at ≡ 0 → ⊥ ⌝ }
+    requires { ⌜ (csdAt (now b) at ≡ 0 → ⊥) ⌝ }
     requires { ⌜ ChainedOf (now b) Kind.Rules (now starts) (now links) rulePlaces ⌝ }
     ensures { λ r. ⌜ r ≡ loneAt (now (b .entry)) Kind.Rows at ⌝ }
 {
@@ -129,7 +130,7 @@ fn lone_period(b: &[u8], at: usize) -> usize
 pub fn lone(b: &[u8], kind: Kind, at: usize, starts: &[u16], links: &[u16]) -> usize
     requires { ⌜ length (now b) ≡ bookSize ⌝ }
     requires { ⌜ at + tableOf kind .width ≤ length (now b) ⌝ }
-    requires { ⌜ csdAt (now b) at ≡ 0 → ⊥ ⌝ }
+    requires { ⌜ (csdAt (now b) at ≡ 0 → ⊥) ⌝ }
     requires { ⌜ OwnersChained (now b) kind (now starts) (now links) ⌝ }
     ensures { λ r. ⌜ r ≡ loneAt (now (b .entry)) kind at ⌝ }
 {
