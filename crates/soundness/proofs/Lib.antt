@@ -5,3 +5,8 @@ pub mod RowTable
 pub mod PeriodTable
 pub mod WholeTable
 pub mod Stages
+pub mod WordReads
+pub mod SameWords
+pub mod FreeWords
+pub mod BucketWords
+pub mod FitWords
