@@ -6,3 +6,8 @@ pub mod Passes
 pub mod Decided
 pub mod WholeTable
 pub mod Stages
+pub mod WordReads
+pub mod SameWords
+pub mod FreeWords
+pub mod BucketWords
+pub mod FitWords

@@ -41,10 +41,10 @@ unfoldable pub ruleBucketOf : Row → ℕ
 unfolding keyBucket
 ruleBucketOf t = keyBucket (ruleKey (t .csd) (t .number) (t .object) (t .sequence))
 
--- a row's bytes from its sequence on as three numbers: sequence and values 0 to 3, values 4 to 6, values 7 to 9
+-- a row's values as three numbers: 0 to 3, 4 to 6, 7 to 9
 
-unfoldable pub frontWord : ℕ → List ℕ → ℕ
-frontWord sequence v = sequence + 256 * getD v 0 0 + 65536 * getD v 1 0 + 16777216 * getD v 2 0 + 4294967296 * getD v 3 0
+unfoldable pub frontWord : List ℕ → ℕ
+frontWord v = getD v 0 0 + 256 * getD v 1 0 + 65536 * getD v 2 0 + 16777216 * getD v 3 0
 
 unfoldable pub middleWord : List ℕ → ℕ
 middleWord v = getD v 4 0 + 16777216 * getD v 5 0 + 281474976710656 * getD v 6 0
@@ -72,7 +72,7 @@ unfolding keyBucket frontWord middleWord tailWord
 rowBucket t =
     ownBucket (t .csd)
     (keyBucket
-    (folded (wrapped (wrapped (frontWord (t .sequence) (t .values) + middleWord (t .values)) + tailWord (t .values)))
+    (folded (wrapped (wrapped (frontWord (t .values) + middleWord (t .values)) + tailWord (t .values)))
     (ruleKey (t .csd) (t .number) (t .object) (t .sequence)))
     / 8)
 

@@ -1,5 +1,5 @@
 -- The record whose place starts at an address. Assumes nothing.
-use Prim.Native.Nat.{ℕ, _+_, _*_}
+use Prim.Native.Nat.{ℕ, _+_, _*_, _<_}
 use mathlib.Core.Bool.{Bool, _&&_}
 use mathlib.Core.List.{List}
 use Rattle.tables.specs.Bytes.{byteAt, numbers, number, four}
@@ -10,6 +10,10 @@ use Rattle.places.specs.declared.RestrictionType.{RestrictionType}
 use Rattle.places.specs.declared.Rule.{Rule}
 use Rattle.places.specs.declared.Row.{Row}
 use Rattle.places.specs.declared.Period.{Period}
+
+-- each number of a book is a byte
+pub record Bytes (b : List ℕ) : Type 0 where
+  pub each : (i : ℕ) → byteAt b i < 256
 
 unfoldable pub typeRead : List ℕ → ℕ → RestrictionType
 typeRead b at = typeFrom (numbers typeWidths b at 0)

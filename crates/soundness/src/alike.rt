@@ -8,9 +8,9 @@ ghost use Prim.Native.Nat.{_+_, _≤_};
 ghost use lib.ListN.{length};
 ghost use Rattle.meaning.specs.Keys.{filled};
 ghost use Rattle.places.specs.Layout.{typeWidth, ruleWidth, rowWidth, periodWidth};
-ghost use Rattle.soundness.specs.Reads.{typeRead, ruleRead, rowRead, periodRead};
+ghost use Rattle.soundness.specs.Reads.{Bytes, typeRead, ruleRead, rowRead, periodRead};
 ghost use Rattle.soundness.specs.Alike.{typeAlike, ruleAlike, rowAlike, periodAlike, typedBy, ruledBy};
-ghost use Rattle.soundness.specs.Buckets.{tailWord};
+ghost use Rattle.soundness.specs.Buckets.{frontWord, tailWord};
 
 // The same depository, type and object.
 pub fn type_alike(b: &[u8], at: usize, other: usize) -> bool
@@ -18,7 +18,7 @@ pub fn type_alike(b: &[u8], at: usize, other: usize) -> bool
     requires { ⌜ other + typeWidth ≤ length (now b) ⌝ }
     ensures { λ r. ⌜ r ≡ typeAlike (typeRead (now (b .entry)) at) (typeRead (now (b .entry)) other) ⌝ }
 {
-    three(b, at, 0) == three(b, other, 0)
+    three(b, other, 0) == three(b, at, 0)
 }
 
 // And the same sequence.
@@ -27,27 +27,37 @@ pub fn rule_alike(b: &[u8], at: usize, other: usize) -> bool
     requires { ⌜ other + ruleWidth ≤ length (now b) ⌝ }
     ensures { λ r. ⌜ r ≡ ruleAlike (ruleRead (now (b .entry)) at) (ruleRead (now (b .entry)) other) ⌝ }
 {
-    four(b, at, 0) == four(b, other, 0)
+    four(b, other, 0) == four(b, at, 0)
 }
 
-// Values 7 to 9 of a row.
+// Values 0 to 3 of a row, and values 7 to 9: the seven bytes after one that is not theirs.
+
+pub fn front_word(b: &[u8], at: usize) -> u64
+    requires { ⌜ at + rowWidth ≤ length (now b) ⌝ }
+    ensures { λ r. ⌜ r ≡ frontWord (rowRead (now (b .entry)) at .values) ⌝ }
+    ensures { λ r. ⌜ Bytes (now (b .entry)) ⌝ }
+{
+    eight(b, at, 3) / 256
+}
+
 pub fn tail_word(b: &[u8], at: usize) -> u64
     requires { ⌜ at + rowWidth ≤ length (now b) ⌝ }
     ensures { λ r. ⌜ r ≡ tailWord (rowRead (now (b .entry)) at .values) ⌝ }
+    ensures { λ r. ⌜ Bytes (now (b .entry)) ⌝ }
 {
     eight(b, at, 18) / 256
 }
 
-// And the same values: eight bytes from the sequence on, eight from value 4 on, and the rest.
+// And the same values.
 pub fn row_alike(b: &[u8], at: usize, other: usize) -> bool
     requires { ⌜ at + rowWidth ≤ length (now b) ⌝ }
     requires { ⌜ other + rowWidth ≤ length (now b) ⌝ }
     ensures { λ r. ⌜ r ≡ rowAlike (rowRead (now (b .entry)) at) (rowRead (now (b .entry)) other) ⌝ }
 {
-    if four(b, at, 0) != four(b, other, 0) {
+    if four(b, other, 0) != four(b, at, 0) {
         return false;
     }
-    if eight(b, at, 3) != eight(b, other, 3) {
+    if front_word(b, at) != front_word(b, other) {
         return false;
     }
     if eight(b, at, 11) != eight(b, other, 11) {
@@ -62,13 +72,13 @@ pub fn period_alike(b: &[u8], at: usize, other: usize) -> bool
     requires { ⌜ other + periodWidth ≤ length (now b) ⌝ }
     ensures { λ r. ⌜ r ≡ periodAlike (periodRead (now (b .entry)) at) (periodRead (now (b .entry)) other) ⌝ }
 {
-    if two(b, at, 0) != two(b, other, 0) {
+    if two(b, other, 0) != two(b, at, 0) {
         return false;
     }
-    if three(b, at, 2) != three(b, other, 2) {
+    if three(b, other, 2) != three(b, at, 2) {
         return false;
     }
-    if two(b, at, 5) / 100 != two(b, other, 5) / 100 {
+    if two(b, other, 5) / 100 != two(b, at, 5) / 100 {
         return false;
     }
     if four(b, other, 7) > four(b, at, 11) {
@@ -85,7 +95,7 @@ pub fn typed_by(b: &[u8], at: usize, other: usize) -> bool
     requires { ⌜ other + typeWidth ≤ length (now b) ⌝ }
     ensures { λ r. ⌜ r ≡ typedBy (ruleRead (now (b .entry)) at) (typeRead (now (b .entry)) other) ⌝ }
 {
-    three(b, at, 0) == three(b, other, 0)
+    three(b, other, 0) == three(b, at, 0)
 }
 
 // Whether the rule at other is that of the row, which fills these criteria.
@@ -95,7 +105,7 @@ pub fn ruled_by(b: &[u8], at: usize, other: usize, criteria: u32) -> bool
     requires { ⌜ criteria ≡ filled (rowRead (now b) at .values) ⌝ }
     ensures { λ r. ⌜ r ≡ ruledBy (rowRead (now (b .entry)) at) (ruleRead (now (b .entry)) other) ⌝ }
 {
-    if four(b, at, 0) != four(b, other, 0) {
+    if four(b, other, 0) != four(b, at, 0) {
         return false;
     }
     two(b, other, 5) == criteria

@@ -1,4 +1,5 @@
 // The bucket of the record whose place starts at an address: a number below CHAIN_HEADS, whatever the bytes.
+use crate::alike::front_word;
 use crate::alike::tail_word;
 use crate::words::eight;
 use crate::words::four;
@@ -89,7 +90,7 @@ pub fn row_bucket(b: &[u8], at: usize) -> usize
     ensures { λ r. ⌜ r ≡ rowBucket (rowRead (now (b .entry)) at) ⌝ }
     ensures { λ r. ⌜ r < chainHeads ⌝ }
 {
-    let sum = std::num::wrapping_add_u64(eight(b, at, 3), eight(b, at, 11));
+    let sum = std::num::wrapping_add_u64(front_word(b, at), eight(b, at, 11));
     let all = std::num::wrapping_add_u64(sum, tail_word(b, at));
     let k = key_bucket(fold(all, four(b, at, 0)));
     own_bucket(one(b, at, 0), k / 8)

@@ -43,23 +43,17 @@ pub fn type_fits(b: &[u8], at: usize) -> bool
 {
     let object = one(b, at, 2);
     let processing = one(b, at, 3);
-    if no(key_fits(one(b, at, 1), object)) {
-        return false;
-    }
-    if no(byte_within(
+    let held = no(and(
+        processing == RestrictionType::PARTY_HOLD,
+        object == RestrictionType::RESTRICTION,
+    ));
+    let known = byte_within(
         RestrictionType::REJECTION,
         RestrictionType::PARTY_HOLD,
         processing,
-    )) {
-        return false;
-    }
-    if and(
-        processing == RestrictionType::PARTY_HOLD,
-        object == RestrictionType::RESTRICTION,
-    ) {
-        return false;
-    }
-    days_fit(four(b, at, 4), four(b, at, 8))
+    );
+    let days = days_fit(four(b, at, 4), four(b, at, 8));
+    and(key_fits(one(b, at, 1), object), and(and(known, held), days))
 }
 
 // The key of a rule, which stands first in rules and in rows.
@@ -77,32 +71,20 @@ pub fn rule_fits(b: &[u8], at: usize) -> bool
     requires { ⌜ at + ruleWidth ≤ length (now b) ⌝ }
     ensures { λ r. ⌜ r ≡ ruleFits (ruleOf (ruleRead (now (b .entry)) at)) ⌝ }
 {
-    if no(rule_key_fits(b, at)) {
-        return false;
-    }
-    if no(byte_within(Rule::POSITIVE, Rule::NEGATIVE, one(b, at, 4))) {
-        return false;
-    }
-    if no(within(1, 1023, two(b, at, 5))) {
-        return false;
-    }
-    days_fit(four(b, at, 7), four(b, at, 11))
+    let signed = byte_within(Rule::POSITIVE, Rule::NEGATIVE, one(b, at, 4));
+    let says = and(signed, within(1, 1023, two(b, at, 5)));
+    let days = days_fit(four(b, at, 7), four(b, at, 11));
+    and(rule_key_fits(b, at), and(says, days))
 }
 
 pub fn period_fits(b: &[u8], at: usize) -> bool
     requires { ⌜ at + periodWidth ≤ length (now b) ⌝ }
     ensures { λ r. ⌜ r ≡ periodFits (periodOf (periodRead (now (b .entry)) at)) ⌝ }
 {
-    if no(byte_within(Period::PARTY, Period::SECURITY, one(b, at, 1))) {
-        return false;
-    }
-    if no(within(1, 999999, three(b, at, 2))) {
-        return false;
-    }
-    if no(is_code(two(b, at, 5))) {
-        return false;
-    }
-    days_fit(four(b, at, 7), four(b, at, 11))
+    let known = byte_within(Period::PARTY, Period::SECURITY, one(b, at, 1));
+    let of = and(known, within(1, 999999, three(b, at, 2)));
+    let days = days_fit(four(b, at, 7), four(b, at, 11));
+    and(of, and(is_code(two(b, at, 5)), days))
 }
 
 // ---- The ten values of a row: the three codes and the currency; transaction, security and account before them; party
@@ -112,48 +94,30 @@ fn codes_fit(b: &[u8], at: usize) -> bool
     requires { ⌜ at + rowWidth ≤ length (now b) ⌝ }
     ensures { λ r. ⌜ r ≡ codesFit (rowRead (now (b .entry)) at .values) ⌝ }
 {
-    if no(code_or(two(b, at, 17))) {
-        return false;
-    }
-    if no(code_or(two(b, at, 19))) {
-        return false;
-    }
-    if no(code_or(two(b, at, 21))) {
-        return false;
-    }
-    currency_or(three(b, at, 23))
+    let rest = and(code_or(two(b, at, 21)), currency_or(three(b, at, 23)));
+    and(code_or(two(b, at, 17)), and(code_or(two(b, at, 19)), rest))
 }
 
 fn names_fit(b: &[u8], at: usize) -> bool
     requires { ⌜ at + rowWidth ≤ length (now b) ⌝ }
     ensures { λ r. ⌜ r ≡ namesFit (rowRead (now (b .entry)) at .values) ⌝ }
 {
-    if no(transaction_or(four(b, at, 7))) {
-        return false;
-    }
-    if no(up_to_or(three(b, at, 11), 999999)) {
-        return false;
-    }
-    if no(up_to_or(three(b, at, 14), 999999)) {
-        return false;
-    }
-    codes_fit(b, at)
+    let rest = and(up_to_or(three(b, at, 14), 999999), codes_fit(b, at));
+    and(
+        transaction_or(four(b, at, 7)),
+        and(up_to_or(three(b, at, 11), 999999), rest),
+    )
 }
 
 fn values_fit(b: &[u8], at: usize) -> bool
     requires { ⌜ at + rowWidth ≤ length (now b) ⌝ }
     ensures { λ r. ⌜ r ≡ holdsAll tenValues (rowRead (now (b .entry)) at .values) ⌝ }
 {
-    if no(up_to_or(wide(one(b, at, 4)), 3)) {
-        return false;
-    }
-    if no(up_to_or(wide(one(b, at, 5)), 2)) {
-        return false;
-    }
-    if no(up_to_or(wide(one(b, at, 6)), 2)) {
-        return false;
-    }
-    names_fit(b, at)
+    let rest = and(up_to_or(wide(one(b, at, 6)), 2), names_fit(b, at));
+    and(
+        up_to_or(wide(one(b, at, 4)), 3),
+        and(up_to_or(wide(one(b, at, 5)), 2), rest),
+    )
 }
 
 // The criteria of five values: the first has the lowest weight.

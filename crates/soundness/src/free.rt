@@ -1,9 +1,14 @@
 // Free places: all their bytes are 0 (document 01, 'Records').
+use crate::alike::front_word;
+use crate::alike::tail_word;
 use crate::words::eight;
 use crate::words::four;
+use crate::words::one;
+use crate::words::three;
 use crate::words::two;
+use basics::and;
 ghost use mathlib.Core.Path.{_≡_};
-ghost use Prim.Native.Nat.{_+_, _*_, _≤_};
+ghost use Prim.Native.Nat.{_+_, _*_, _≤_, _<_};
 ghost use lib.ListN.{length};
 ghost use Rattle.chains.specs.Sizes.{blockPlaces};
 ghost use Rattle.chains.specs.Blocks.{zeroFrom};
@@ -15,46 +20,31 @@ pub fn type_free(b: &[u8], at: usize) -> bool
     requires { ⌜ at + typeWidth ≤ length (now b) ⌝ }
     ensures { λ r. ⌜ r ≡ typeZero (typeRead (now (b .entry)) at) ⌝ }
 {
-    if eight(b, at, 0) != 0 {
-        return false;
-    }
-    four(b, at, 8) == 0
+    and(four(b, at, 0) == 0, eight(b, at, 4) == 0)
 }
 
 pub fn rule_free(b: &[u8], at: usize) -> bool
     requires { ⌜ at + ruleWidth ≤ length (now b) ⌝ }
     ensures { λ r. ⌜ r ≡ ruleZero (ruleRead (now (b .entry)) at) ⌝ }
 {
-    if eight(b, at, 0) != 0 {
-        return false;
-    }
-    eight(b, at, 7) == 0
+    let key = four(b, at, 0) == 0;
+    and(key, and(three(b, at, 4) == 0, eight(b, at, 7) == 0))
 }
 
 pub fn row_free(b: &[u8], at: usize) -> bool
     requires { ⌜ at + rowWidth ≤ length (now b) ⌝ }
     ensures { λ r. ⌜ r ≡ rowZero (rowRead (now (b .entry)) at) ⌝ }
 {
-    if eight(b, at, 0) != 0 {
-        return false;
-    }
-    if eight(b, at, 8) != 0 {
-        return false;
-    }
-    if eight(b, at, 16) != 0 {
-        return false;
-    }
-    two(b, at, 24) == 0
+    let low = and(four(b, at, 0) == 0, front_word(b, at) == 0);
+    and(low, and(eight(b, at, 11) == 0, tail_word(b, at) == 0))
 }
 
 pub fn period_free(b: &[u8], at: usize) -> bool
     requires { ⌜ at + periodWidth ≤ length (now b) ⌝ }
     ensures { λ r. ⌜ r ≡ periodZero (periodRead (now (b .entry)) at) ⌝ }
 {
-    if eight(b, at, 0) != 0 {
-        return false;
-    }
-    eight(b, at, 7) == 0
+    let of = and(two(b, at, 0) == 0, three(b, at, 2) == 0);
+    and(of, and(two(b, at, 5) == 0, eight(b, at, 7) == 0))
 }
 
 // ---- Sixteen places at once.
@@ -71,10 +61,15 @@ fn words_zero(b: &[u8], from: usize, n: usize) -> bool
     x == 0
 }
 
-// Whether sixteen places of a width are free, which are twice as many times eight bytes.
+// Whether sixteen places of a width are free: twice their width is how many times eight bytes they have. A first byte
+// that is not 0 answers at once.
 pub fn block_free(b: &[u8], from: usize, width: usize) -> bool
+    requires { ⌜ 0 < width ⌝ }
     requires { ⌜ from + blockPlaces * width ≤ length (now b) ⌝ }
     ensures { λ r. ⌜ r ≡ zeroFrom (now (b .entry)) from (blockPlaces * width) ⌝ }
 {
+    if one(b, from, 0) != 0 {
+        return false;
+    }
     words_zero(b, from, 2 * width)
 }

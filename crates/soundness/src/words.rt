@@ -4,7 +4,7 @@ ghost use mathlib.Core.Path.{_≡_};
 ghost use Prim.Native.Nat.{_+_, _*_, _≤_, _<_};
 ghost use lib.ListN.{length};
 ghost use Rattle.tables.specs.Bytes.{one, two, three, four, number};
-ghost use Rattle.soundness.specs.Reads.{eightAt};
+ghost use Rattle.soundness.specs.Reads.{Bytes, eightAt};
 
 // One more than the greatest number of four bytes.
 const FOUR_BYTES: u64 = 4294967296;
@@ -19,6 +19,7 @@ pub fn one(b: &[u8], at: usize, j: usize) -> u8
 pub fn two(b: &[u8], at: usize, j: usize) -> u32
     requires { ⌜ at + (j + 2) ≤ length (now b) ⌝ }
     ensures { λ r. ⌜ r ≡ number two (now (b .entry)) at j ⌝ }
+    ensures { λ r. ⌜ Bytes (now (b .entry)) ⌝ }
 {
     let i = at + j;
     wide(b[i]) + 256 * wide(b[i + 1])
@@ -27,6 +28,7 @@ pub fn two(b: &[u8], at: usize, j: usize) -> u32
 pub fn three(b: &[u8], at: usize, j: usize) -> u32
     requires { ⌜ at + (j + 3) ≤ length (now b) ⌝ }
     ensures { λ r. ⌜ r ≡ number three (now (b .entry)) at j ⌝ }
+    ensures { λ r. ⌜ Bytes (now (b .entry)) ⌝ }
 {
     let i = at + j;
     wide(b[i]) + 256 * wide(b[i + 1]) + 65536 * wide(b[i + 2])
@@ -35,6 +37,7 @@ pub fn three(b: &[u8], at: usize, j: usize) -> u32
 pub fn four(b: &[u8], at: usize, j: usize) -> u32
     requires { ⌜ at + (j + 4) ≤ length (now b) ⌝ }
     ensures { λ r. ⌜ r ≡ number four (now (b .entry)) at j ⌝ }
+    ensures { λ r. ⌜ Bytes (now (b .entry)) ⌝ }
 {
     let i = at + j;
     wide(b[i]) + 256 * wide(b[i + 1]) + 65536 * wide(b[i + 2]) + 16777216 * wide(b[i + 3])
@@ -43,6 +46,7 @@ pub fn four(b: &[u8], at: usize, j: usize) -> u32
 pub fn eight(b: &[u8], at: usize, j: usize) -> u64
     requires { ⌜ at + (j + 8) ≤ length (now b) ⌝ }
     ensures { λ r. ⌜ r ≡ eightAt (now (b .entry)) at j ⌝ }
+    ensures { λ r. ⌜ Bytes (now (b .entry)) ⌝ }
 {
     four(b, at, j) as u64 + FOUR_BYTES * four(b, at, j + 4) as u64
 }
