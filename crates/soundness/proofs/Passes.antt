@@ -18,7 +18,7 @@ use Rattle.chains.proofs.Blocking.{block-over}
 use Rattle.soundness.specs.Kinds.{tableOf, addressOf, PlaceOf, csdAt, freeAt, bucketAt, fitAt, loneAt, csdOf, freeOf, bucketOf, sameOf, fitOf, rightOf, OwnersChained}
 use Rattle.soundness.specs.declared.kinds.Kind.{Kind}
 use Rattle.soundness.specs.declared.kinds.Table.{Table}
-use Rattle.soundness.proofs.KindFacts.{kind-few, kind-own, kind-blocks, kind-block, kind-among, kind-nobody, kind-inside, kind-zero}
+use Rattle.soundness.proofs.KindFacts.{kind-few, kind-own, kind-wide, kind-blocks, kind-block, kind-among, kind-nobody, kind-inside, kind-zero}
 use Rattle.soundness.proofs.Walks.{place-at}
 
 -- ---- `counted`
@@ -140,6 +140,9 @@ module _ (b : List ℕ) (t : Table) (from : ℕ) (p : PlaceOf b t from) (h : fro
   block-within at e =
       let f : t .width ≡ tableOf (t .kind) .width = ap (λ x. x .width) (p .table) in
       rw f (omega (arith, place-at t from at e (p .table), kind-block (t .kind) from l, p .sized))
+
+  pub block-wide : 0 < t .width
+  block-wide = rw (p .table) (kind-wide (t .kind))
 
   pub block-place : (i : ℕ) → i < from + blockPlaces → PlaceOf b t i
   block-place i u = record { sized = p .sized; table = p .table; few = p .few; place = omega arith }

@@ -9,16 +9,18 @@ use borrow.Author.Tests.{eq-eqb, not-true, not-false}
 use Rattle.tables.specs.Count.{allBelow}
 use Rattle.places.specs.Layout.{bookSize, typePlaces, rulePlaces, rowPlaces, periodPlaces}
 use Rattle.book.specs.Sound.{sound}
-use Rattle.chains.specs.Chains.{Chained, AllPassed}
+use Rattle.chains.specs.Chains.{AllPassed}
 use Rattle.soundness.specs.Kinds.{csdOf, bucketOf, rightOf, ChainedOf, rulesSound, rowsSound, RulesSound}
 use Rattle.soundness.specs.declared.kinds.Kind.the-variants as Kinds
 use Rattle.soundness.proofs.Decided.{decided}
 use Rattle.soundness.proofs.WholeTable.{types-whole, rules-whole, rows-whole, periods-whole}
 
 -- Where a stage has not failed its chains are whole.
-pub stage-chained : (csd bucket : ℕ → ℕ) (places : ℕ) (good : ℕ → Bool) (t : Bool) (head next : List ℕ)
-    → AllPassed csd bucket places good t head next → not t ≡ false → Chained csd bucket head next places
-stage-chained csd bucket places good t head next m f = m .chained (not-false t f)
+
+pub types-chained : (b : List ℕ) (t : Bool) (head next : List ℕ)
+    → AllPassed (csdOf b Kinds.Types) (bucketOf b Kinds.Types) typePlaces (rightOf b Kinds.Types) t head next
+    → not t ≡ false → ChainedOf b Kinds.Types head next typePlaces
+types-chained b t head next m f = m .chained (not-false t f)
 
 pub rules-chained : (b : List ℕ) (t : Bool) (head next : List ℕ) → RulesSound b t head next → not t ≡ false
     → ChainedOf b Kinds.Rules head next rulePlaces
