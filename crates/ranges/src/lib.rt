@@ -98,14 +98,14 @@ fn capital(n: u32) -> bool
 }
 
 // The number of three capital letters, and of four.
-fn three_letters(n: u32) -> bool
+pub fn three_letters(n: u32) -> bool
     ensures { λ r. ⌜ r ≡ isWord 3 n ⌝ }
 {
     let rest = and(capital(n / 256 / 256 % 256), n / 256 / 256 / 256 == 0);
     and(capital(n % 256), and(capital(n / 256 % 256), rest))
 }
 
-fn four_letters(n: u32) -> bool
+pub fn four_letters(n: u32) -> bool
     ensures { λ r. ⌜ r ≡ isWord 4 n ⌝ }
 {
     and(capital(n % 256), three_letters(n / 256))
@@ -120,25 +120,25 @@ pub fn is_code(n: u32) -> bool
 
 // A value of a row is 0 where it is empty.
 
-pub fn up_to_or(n: u32, most: u32) -> bool
+fn up_to_or(n: u32, most: u32) -> bool
     ensures { λ r. ⌜ r ≡ holds (optional (upTo most)) n ⌝ }
 {
     or(n == 0, within(1, most, n))
 }
 
-pub fn code_or(n: u32) -> bool
+fn code_or(n: u32) -> bool
     ensures { λ r. ⌜ r ≡ holds (optional code) n ⌝ }
 {
     or(n == 0, is_code(n))
 }
 
-pub fn transaction_or(n: u32) -> bool
+fn transaction_or(n: u32) -> bool
     ensures { λ r. ⌜ r ≡ holds (optional transactionForm) n ⌝ }
 {
     or(n == 0, four_letters(n))
 }
 
-pub fn currency_or(n: u32) -> bool
+fn currency_or(n: u32) -> bool
     ensures { λ r. ⌜ r ≡ holds (optional currencyForm) n ⌝ }
 {
     or(n == 0, three_letters(n))
