@@ -5,13 +5,12 @@ ghost use Rattle.meaning.specs.Forms.{holds, holdsAll, optional, upTo, code, tr
 ghost use Rattle.meaning.specs.Sound.{daysFit, keyFits, typeFits, ruleFits, rowFits, periodFits};
 ghost use Rattle.records.specs.Said.{typeOf, ruleOf, rowOf, periodOf};
 ghost use Rattle.records.specs.Free.{typeZero, ruleZero, rowZero, periodZero};
-ghost use Rattle.ranges.specs.Values.{codesFit, namesFit};
+ghost use Rattle.ranges.specs.Values.{codesFit, namesFit, monthDay};
 use basics::and;
 use basics::byte_within;
 use basics::no;
 use basics::or;
 use basics::within;
-use days::is_day;
 use places::Period;
 use places::RestrictionType;
 use places::Row;
@@ -20,11 +19,35 @@ use records::filled_count;
 
 // ---- Ranges (document 01, 'Lines').
 
+// The days that each month has beyond 28, two bits for each: January's are those of 2 ^ 2. A table would be made anew
+// at every use.
+const MORE_DAYS: u32 = 62648012;
+
+// Whether the month and the day of a number are a real date in its year. A year is leap when 4 divides it.
+fn is_date(n: u32) -> bool
+    ensures { λ r. ⌜ r ≡ monthDay n ⌝ }
+{
+    let month = n / 100 % 100;
+    let day = n % 100;
+    if no(within(1, 12, month)) {
+        return false;
+    }
+    if day == 0 {
+        return false;
+    }
+    if day <= 28 + (MORE_DAYS >> (2 * month) & 3) {
+        return true;
+    }
+    and(n % 10000 == 229, n / 10000 % 4 == 0)
+}
+
 // First is not after last.
 pub fn days_fit(first: u32, last: u32) -> bool
     ensures { λ r. ⌜ r ≡ daysFit first last ⌝ }
 {
-    and(is_day(first), and(is_day(last), first <= last))
+    let order = and(first <= last, last < 21000000);
+    let dates = and(is_date(first), is_date(last));
+    and(and(20000000 <= first, order), dates)
 }
 
 pub fn key_fits(number: u8, object: u8) -> bool
@@ -75,14 +98,14 @@ fn capital(n: u32) -> bool
 }
 
 // The number of three capital letters, and of four.
-fn three_letters(n: u32) -> bool
+pub fn three_letters(n: u32) -> bool
     ensures { λ r. ⌜ r ≡ isWord 3 n ⌝ }
 {
     let rest = and(capital(n / 256 / 256 % 256), n / 256 / 256 / 256 == 0);
     and(capital(n % 256), and(capital(n / 256 % 256), rest))
 }
 
-fn four_letters(n: u32) -> bool
+pub fn four_letters(n: u32) -> bool
     ensures { λ r. ⌜ r ≡ isWord 4 n ⌝ }
 {
     and(capital(n % 256), three_letters(n / 256))
@@ -97,25 +120,25 @@ pub fn is_code(n: u32) -> bool
 
 // A value of a row is 0 where it is empty.
 
-pub fn up_to_or(n: u32, most: u32) -> bool
+fn up_to_or(n: u32, most: u32) -> bool
     ensures { λ r. ⌜ r ≡ holds (optional (upTo most)) n ⌝ }
 {
     or(n == 0, within(1, most, n))
 }
 
-pub fn code_or(n: u32) -> bool
+fn code_or(n: u32) -> bool
     ensures { λ r. ⌜ r ≡ holds (optional code) n ⌝ }
 {
     or(n == 0, is_code(n))
 }
 
-pub fn transaction_or(n: u32) -> bool
+fn transaction_or(n: u32) -> bool
     ensures { λ r. ⌜ r ≡ holds (optional transactionForm) n ⌝ }
 {
     or(n == 0, four_letters(n))
 }
 
-pub fn currency_or(n: u32) -> bool
+fn currency_or(n: u32) -> bool
     ensures { λ r. ⌜ r ≡ holds (optional currencyForm) n ⌝ }
 {
     or(n == 0, three_letters(n))

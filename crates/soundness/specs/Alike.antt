@@ -1,10 +1,11 @@
 -- When two records cannot stand in one book, and which record is another's owner (document 01, 'Records'). Assumes
 -- nothing.
-use Prim.Native.Nat.{ℕ}
-use mathlib.Core.Bool.{Bool, _&&_, cond}
+use Prim.Native.Nat.{ℕ, _+_, _*_}
+use mathlib.Core.Bool.{Bool, _&&_, not, cond}
 use mathlib.Core.List.{List}
-use lib.Dec.{eqb}
-use Rattle.meaning.specs.Forms.{holdsAll, tenValues}
+use lib.Dec.{eqb, ltb}
+use Rattle.tables.specs.Count.{bit}
+use Rattle.meaning.specs.Forms.{Form, holdsAll, tenValues}
 use Rattle.meaning.specs.Keys.{filled}
 use Rattle.places.specs.Layout.{zeroRow}
 use Rattle.places.specs.declared.RestrictionType.{RestrictionType}
@@ -47,5 +48,16 @@ ruledBy w s = eqb (s .csd) (w .csd) && ruleMeets Rules.Fills (rowOf w) (ruleOf s
 abbrev pub noCriteria : ℕ
 noCriteria = 1024
 
+-- a number that no criteria on the way come to
+abbrev pub criteriaRoom : ℕ
+criteriaRoom = 2000000
+
+unfoldable pub filledIn : List Form → List ℕ → ℕ
+filledIn φs v = cond (holdsAll φs v) (filled v) noCriteria
+
 unfoldable pub filledOr : List ℕ → ℕ
 filledOr v = cond (holdsAll tenValues v) (filled v) noCriteria
+
+-- the criteria with one value more in front, of which it is told whether it is in its range
+unfoldable pub oneMore : Bool → ℕ → ℕ → ℕ
+oneMore fit x n = cond (fit && not (eqb n noCriteria)) (bit (ltb 0 x) + 2 * n) noCriteria

@@ -13,7 +13,7 @@ ghost use Rattle.soundness.specs.Alike.{typeAlike, ruleAlike, rowAlike, 
 ghost use Rattle.soundness.specs.Buckets.{frontWord, tailWord};
 
 // The same depository, type and object.
-pub fn type_alike(b: &[u8], at: usize, other: usize) -> bool
+pub(crate) fn type_alike(b: &[u8], at: usize, other: usize) -> bool
     requires { ⌜ at + typeWidth ≤ length (now b) ⌝ }
     requires { ⌜ other + typeWidth ≤ length (now b) ⌝ }
     ensures { λ r. ⌜ r ≡ typeAlike (typeRead (now (b .entry)) at) (typeRead (now (b .entry)) other) ⌝ }
@@ -22,7 +22,7 @@ pub fn type_alike(b: &[u8], at: usize, other: usize) -> bool
 }
 
 // And the same sequence.
-pub fn rule_alike(b: &[u8], at: usize, other: usize) -> bool
+pub(crate) fn rule_alike(b: &[u8], at: usize, other: usize) -> bool
     requires { ⌜ at + ruleWidth ≤ length (now b) ⌝ }
     requires { ⌜ other + ruleWidth ≤ length (now b) ⌝ }
     ensures { λ r. ⌜ r ≡ ruleAlike (ruleRead (now (b .entry)) at) (ruleRead (now (b .entry)) other) ⌝ }
@@ -32,7 +32,7 @@ pub fn rule_alike(b: &[u8], at: usize, other: usize) -> bool
 
 // Values 0 to 3 of a row, and values 7 to 9: the seven bytes after one that is not theirs.
 
-pub fn front_word(b: &[u8], at: usize) -> u64
+pub(crate) fn front_word(b: &[u8], at: usize) -> u64
     requires { ⌜ at + rowWidth ≤ length (now b) ⌝ }
     ensures { λ r. ⌜ r ≡ frontWord (rowRead (now (b .entry)) at .values) ⌝ }
     ensures { λ r. ⌜ Bytes (now (b .entry)) ⌝ }
@@ -40,7 +40,7 @@ pub fn front_word(b: &[u8], at: usize) -> u64
     eight(b, at, 3) / 256
 }
 
-pub fn tail_word(b: &[u8], at: usize) -> u64
+pub(crate) fn tail_word(b: &[u8], at: usize) -> u64
     requires { ⌜ at + rowWidth ≤ length (now b) ⌝ }
     ensures { λ r. ⌜ r ≡ tailWord (rowRead (now (b .entry)) at .values) ⌝ }
     ensures { λ r. ⌜ Bytes (now (b .entry)) ⌝ }
@@ -49,7 +49,7 @@ pub fn tail_word(b: &[u8], at: usize) -> u64
 }
 
 // And the same values.
-pub fn row_alike(b: &[u8], at: usize, other: usize) -> bool
+pub(crate) fn row_alike(b: &[u8], at: usize, other: usize) -> bool
     requires { ⌜ at + rowWidth ≤ length (now b) ⌝ }
     requires { ⌜ other + rowWidth ≤ length (now b) ⌝ }
     ensures { λ r. ⌜ r ≡ rowAlike (rowRead (now (b .entry)) at) (rowRead (now (b .entry)) other) ⌝ }
@@ -67,7 +67,7 @@ pub fn row_alike(b: &[u8], at: usize, other: usize) -> bool
 }
 
 // The same depository, kind, number and attribute, and a day in common.
-pub fn period_alike(b: &[u8], at: usize, other: usize) -> bool
+pub(crate) fn period_alike(b: &[u8], at: usize, other: usize) -> bool
     requires { ⌜ at + periodWidth ≤ length (now b) ⌝ }
     requires { ⌜ other + periodWidth ≤ length (now b) ⌝ }
     ensures { λ r. ⌜ r ≡ periodAlike (periodRead (now (b .entry)) at) (periodRead (now (b .entry)) other) ⌝ }
@@ -90,7 +90,7 @@ pub fn period_alike(b: &[u8], at: usize, other: usize) -> bool
 // ---- Owners.
 
 // Whether the type at other is that of the rule.
-pub fn typed_by(b: &[u8], at: usize, other: usize) -> bool
+pub(crate) fn typed_by(b: &[u8], at: usize, other: usize) -> bool
     requires { ⌜ at + ruleWidth ≤ length (now b) ⌝ }
     requires { ⌜ other + typeWidth ≤ length (now b) ⌝ }
     ensures { λ r. ⌜ r ≡ typedBy (ruleRead (now (b .entry)) at) (typeRead (now (b .entry)) other) ⌝ }
@@ -99,7 +99,7 @@ pub fn typed_by(b: &[u8], at: usize, other: usize) -> bool
 }
 
 // Whether the rule at other is that of the row, which fills these criteria.
-pub fn ruled_by(b: &[u8], at: usize, other: usize, criteria: u32) -> bool
+pub(crate) fn ruled_by(b: &[u8], at: usize, other: usize, criteria: u32) -> bool
     requires { ⌜ at + rowWidth ≤ length (now b) ⌝ }
     requires { ⌜ other + ruleWidth ≤ length (now b) ⌝ }
     requires { ⌜ criteria ≡ filled (rowRead (now b) at .values) ⌝ }

@@ -14,7 +14,7 @@ ghost use Rattle.soundness.specs.Reads.{typeRead, ruleRead, rowRead, per
 ghost use Rattle.soundness.specs.Buckets.{chainHeads, keyBucket, typeBucket, ruleBucket, rowBucket, periodBucket, typeBucketOf, ruleBucketOf, folded, ownBuckets, ownBucket};
 
 // How many chains a table has.
-pub const CHAIN_HEADS: usize = 2048;
+pub(crate) const CHAIN_HEADS: usize = 2048;
 
 // How many of them each depository has.
 const OWN_BUCKETS: usize = 256;
@@ -35,7 +35,7 @@ fn key_bucket(key: u32) -> usize
     (key as u64 * SPREAD / LOW_BITS % CHAIN_HEADS as u64) as usize
 }
 
-pub fn type_bucket(b: &[u8], at: usize) -> usize
+pub(crate) fn type_bucket(b: &[u8], at: usize) -> usize
     requires { ⌜ at + typeWidth ≤ length (now b) ⌝ }
     ensures { λ r. ⌜ r ≡ typeBucket (typeRead (now (b .entry)) at) ⌝ }
     ensures { λ r. ⌜ r < chainHeads ⌝ }
@@ -44,7 +44,7 @@ pub fn type_bucket(b: &[u8], at: usize) -> usize
 }
 
 // The bucket of a rule's type.
-pub fn type_bucket_of(b: &[u8], at: usize) -> usize
+pub(crate) fn type_bucket_of(b: &[u8], at: usize) -> usize
     requires { ⌜ at + ruleWidth ≤ length (now b) ⌝ }
     ensures { λ r. ⌜ r ≡ typeBucketOf (ruleRead (now (b .entry)) at) ⌝ }
     ensures { λ r. ⌜ r < chainHeads ⌝ }
@@ -52,7 +52,7 @@ pub fn type_bucket_of(b: &[u8], at: usize) -> usize
     key_bucket(three(b, at, 0))
 }
 
-pub fn rule_bucket(b: &[u8], at: usize) -> usize
+pub(crate) fn rule_bucket(b: &[u8], at: usize) -> usize
     requires { ⌜ at + ruleWidth ≤ length (now b) ⌝ }
     ensures { λ r. ⌜ r ≡ ruleBucket (ruleRead (now (b .entry)) at) ⌝ }
     ensures { λ r. ⌜ r < chainHeads ⌝ }
@@ -61,7 +61,7 @@ pub fn rule_bucket(b: &[u8], at: usize) -> usize
 }
 
 // The bucket of a row's rule.
-pub fn rule_bucket_of(b: &[u8], at: usize) -> usize
+pub(crate) fn rule_bucket_of(b: &[u8], at: usize) -> usize
     requires { ⌜ at + rowWidth ≤ length (now b) ⌝ }
     ensures { λ r. ⌜ r ≡ ruleBucketOf (rowRead (now (b .entry)) at) ⌝ }
     ensures { λ r. ⌜ r < chainHeads ⌝ }
@@ -85,7 +85,7 @@ fn own_bucket(csd: u8, k: usize) -> usize
     csd as usize % 8 * OWN_BUCKETS + k
 }
 
-pub fn row_bucket(b: &[u8], at: usize) -> usize
+pub(crate) fn row_bucket(b: &[u8], at: usize) -> usize
     requires { ⌜ at + rowWidth ≤ length (now b) ⌝ }
     ensures { λ r. ⌜ r ≡ rowBucket (rowRead (now (b .entry)) at) ⌝ }
     ensures { λ r. ⌜ r < chainHeads ⌝ }
@@ -96,7 +96,7 @@ pub fn row_bucket(b: &[u8], at: usize) -> usize
     own_bucket(one(b, at, 0), k / 8)
 }
 
-pub fn period_bucket(b: &[u8], at: usize) -> usize
+pub(crate) fn period_bucket(b: &[u8], at: usize) -> usize
     requires { ⌜ at + periodWidth ≤ length (now b) ⌝ }
     ensures { λ r. ⌜ r ≡ periodBucket (periodRead (now (b .entry)) at) ⌝ }
     ensures { λ r. ⌜ r < chainHeads ⌝ }

@@ -6,38 +6,31 @@ use crate::words::two;
 use basics::and;
 use basics::byte_within;
 use basics::no;
-use basics::one_if;
 use basics::wide;
 use basics::within;
 use places::Period;
 use places::RestrictionType;
 use places::Rule;
-use ranges::code_or;
-use ranges::currency_or;
 use ranges::days_fit;
+use ranges::four_letters;
 use ranges::is_code;
 use ranges::key_fits;
-use ranges::transaction_or;
-use ranges::up_to_or;
+use ranges::three_letters;
 ghost use mathlib.Core.Path.{_≡_};
-ghost use Prim.Native.Nat.{_+_, _*_, _≤_, _<_};
-ghost use lib.Dec.{ltb};
+ghost use Prim.Native.Nat.{_+_, _*_, _≤_};
 ghost use lib.ListN.{length, drop};
-ghost use Rattle.tables.specs.Count.{bit};
-ghost use Rattle.meaning.specs.Forms.{holdsAll, tenValues};
-ghost use Rattle.meaning.specs.Keys.{filled};
+ghost use Rattle.meaning.specs.Forms.{holds, optional, upTo, code, transactionForm, currencyForm, tenValues};
 ghost use Rattle.meaning.specs.Sound.{typeFits, ruleFits, periodFits};
 ghost use Rattle.places.specs.Layout.{typeWidth, ruleWidth, rowWidth, periodWidth};
 ghost use Rattle.records.specs.Said.{typeOf, ruleOf, periodOf};
-ghost use Rattle.ranges.specs.Values.{codesFit, namesFit};
 ghost use Rattle.soundness.specs.Reads.{typeRead, ruleRead, rowRead, periodRead, keyHolds};
-ghost use Rattle.soundness.specs.Alike.{filledOr};
+ghost use Rattle.soundness.specs.Alike.{noCriteria, criteriaRoom, filledIn, filledOr, oneMore};
 
 // No criteria are that many.
-pub const NO_CRITERIA: u32 = 1024;
+pub(crate) const NO_CRITERIA: u32 = 1024;
 
 // A party hold is of instructions only.
-pub fn type_fits(b: &[u8], at: usize) -> bool
+pub(crate) fn type_fits(b: &[u8], at: usize) -> bool
     requires { ⌜ at + typeWidth ≤ length (now b) ⌝ }
     ensures { λ r. ⌜ r ≡ typeFits (typeOf (typeRead (now (b .entry)) at)) ⌝ }
 {
@@ -57,7 +50,7 @@ pub fn type_fits(b: &[u8], at: usize) -> bool
 }
 
 // The key of a rule, which stands first in rules and in rows.
-pub fn rule_key_fits(b: &[u8], at: usize) -> bool
+pub(crate) fn rule_key_fits(b: &[u8], at: usize) -> bool
     requires { ⌜ at + 4 ≤ length (now b) ⌝ }
     ensures { λ r. ⌜ r ≡ keyHolds (now (b .entry)) at ⌝ }
 {
@@ -67,7 +60,7 @@ pub fn rule_key_fits(b: &[u8], at: usize) -> bool
     )
 }
 
-pub fn rule_fits(b: &[u8], at: usize) -> bool
+pub(crate) fn rule_fits(b: &[u8], at: usize) -> bool
     requires { ⌜ at + ruleWidth ≤ length (now b) ⌝ }
     ensures { λ r. ⌜ r ≡ ruleFits (ruleOf (ruleRead (now (b .entry)) at)) ⌝ }
 {
@@ -77,7 +70,7 @@ pub fn rule_fits(b: &[u8], at: usize) -> bool
     and(rule_key_fits(b, at), and(says, days))
 }
 
-pub fn period_fits(b: &[u8], at: usize) -> bool
+pub(crate) fn period_fits(b: &[u8], at: usize) -> bool
     requires { ⌜ at + periodWidth ≤ length (now b) ⌝ }
     ensures { λ r. ⌜ r ≡ periodFits (periodOf (periodRead (now (b .entry)) at)) ⌝ }
 {
@@ -87,86 +80,110 @@ pub fn period_fits(b: &[u8], at: usize) -> bool
     and(of, and(is_code(two(b, at, 5)), days))
 }
 
-// ---- The ten values of a row: the three codes and the currency; transaction, security and account before them; party
-// type, movement and payment before these.
+// ---- The criteria that a row's values fill, the last value first.
 
-fn codes_fit(b: &[u8], at: usize) -> bool
+// A value from 1 to the most, or empty, in front of those whose criteria are n.
+fn more_up(x: u32, most: u32, n: u32) -> u32
+    requires { ⌜ n ≤ criteriaRoom ⌝ }
+    ensures { λ r. ⌜ r ≡ oneMore (holds (optional (upTo most)) x) x n ⌝ }
+    ensures { λ r. ⌜ r ≤ 2 * n + noCriteria ⌝ }
+{
+    if n == NO_CRITERIA {
+        return NO_CRITERIA;
+    }
+    if x == 0 {
+        return 2 * n;
+    }
+    if within(1, most, x) {
+        return 2 * n + 1;
+    }
+    NO_CRITERIA
+}
+
+// And a code, a currency, a transaction.
+
+fn more_code(x: u32, n: u32) -> u32
+    requires { ⌜ n ≤ criteriaRoom ⌝ }
+    ensures { λ r. ⌜ r ≡ oneMore (holds (optional code) x) x n ⌝ }
+    ensures { λ r. ⌜ r ≤ 2 * n + noCriteria ⌝ }
+{
+    if n == NO_CRITERIA {
+        return NO_CRITERIA;
+    }
+    if x == 0 {
+        return 2 * n;
+    }
+    if is_code(x) {
+        return 2 * n + 1;
+    }
+    NO_CRITERIA
+}
+
+fn more_currency(x: u32, n: u32) -> u32
+    requires { ⌜ n ≤ criteriaRoom ⌝ }
+    ensures { λ r. ⌜ r ≡ oneMore (holds (optional currencyForm) x) x n ⌝ }
+    ensures { λ r. ⌜ r ≤ 2 * n + noCriteria ⌝ }
+{
+    if n == NO_CRITERIA {
+        return NO_CRITERIA;
+    }
+    if x == 0 {
+        return 2 * n;
+    }
+    if three_letters(x) {
+        return 2 * n + 1;
+    }
+    NO_CRITERIA
+}
+
+fn more_transaction(x: u32, n: u32) -> u32
+    requires { ⌜ n ≤ criteriaRoom ⌝ }
+    ensures { λ r. ⌜ r ≡ oneMore (holds (optional transactionForm) x) x n ⌝ }
+    ensures { λ r. ⌜ r ≤ 2 * n + noCriteria ⌝ }
+{
+    if n == NO_CRITERIA {
+        return NO_CRITERIA;
+    }
+    if x == 0 {
+        return 2 * n;
+    }
+    if four_letters(x) {
+        return 2 * n + 1;
+    }
+    NO_CRITERIA
+}
+
+// The criteria of the codes and the currency; with account, security and transaction; with payment, movement and party
+// type: each NO_CRITERIA where a value is not in its range.
+
+fn filled_codes(b: &[u8], at: usize) -> u32
     requires { ⌜ at + rowWidth ≤ length (now b) ⌝ }
-    ensures { λ r. ⌜ r ≡ codesFit (rowRead (now (b .entry)) at .values) ⌝ }
+    ensures { λ r. ⌜ r ≡ filledIn (drop 6 tenValues) (drop 6 (rowRead (now (b .entry)) at .values)) ⌝ }
+    ensures { λ r. ⌜ r ≤ 16384 ⌝ }
 {
-    let rest = and(code_or(two(b, at, 21)), currency_or(three(b, at, 23)));
-    and(code_or(two(b, at, 17)), and(code_or(two(b, at, 19)), rest))
+    let currency = more_currency(three(b, at, 23), 0);
+    let security = more_code(two(b, at, 21), currency);
+    let account = more_code(two(b, at, 19), security);
+    more_code(two(b, at, 17), account)
 }
 
-fn names_fit(b: &[u8], at: usize) -> bool
+fn filled_names(b: &[u8], at: usize) -> u32
     requires { ⌜ at + rowWidth ≤ length (now b) ⌝ }
-    ensures { λ r. ⌜ r ≡ namesFit (rowRead (now (b .entry)) at .values) ⌝ }
+    ensures { λ r. ⌜ r ≡ filledIn (drop 3 tenValues) (drop 3 (rowRead (now (b .entry)) at .values)) ⌝ }
+    ensures { λ r. ⌜ r ≤ 163840 ⌝ }
 {
-    let rest = and(up_to_or(three(b, at, 14), 999999), codes_fit(b, at));
-    and(
-        transaction_or(four(b, at, 7)),
-        and(up_to_or(three(b, at, 11), 999999), rest),
-    )
+    let codes = filled_codes(b, at);
+    let account = more_up(three(b, at, 14), 999999, codes);
+    let security = more_up(three(b, at, 11), 999999, account);
+    more_transaction(four(b, at, 7), security)
 }
 
-fn values_fit(b: &[u8], at: usize) -> bool
-    requires { ⌜ at + rowWidth ≤ length (now b) ⌝ }
-    ensures { λ r. ⌜ r ≡ holdsAll tenValues (rowRead (now (b .entry)) at .values) ⌝ }
-{
-    let rest = and(up_to_or(wide(one(b, at, 6)), 2), names_fit(b, at));
-    and(
-        up_to_or(wide(one(b, at, 4)), 3),
-        and(up_to_or(wide(one(b, at, 5)), 2), rest),
-    )
-}
-
-// The criteria of five values: the first has the lowest weight.
-fn filled_five(a: u32, b: u32, c: u32, d: u32, e: u32) -> u32
-    ensures { λ r. ⌜ r ≡ bit (ltb 0 a) + 2 * (bit (ltb 0 b) + 2 * (bit (ltb 0 c) + 2 * (bit (ltb 0 d) + 2 * bit (ltb 0 e)))) ⌝ }
-    ensures { λ r. ⌜ r < 32 ⌝ }
-{
-    let high = one_if(0 < c) + 2 * (one_if(0 < d) + 2 * one_if(0 < e));
-    (one_if(0 < a) + 2 * (one_if(0 < b) + 2 * high)) as u32
-}
-
-// The criteria of values 5 to 9, and of all ten.
-
-fn filled_last(b: &[u8], at: usize) -> u32
-    requires { ⌜ at + rowWidth ≤ length (now b) ⌝ }
-    ensures { λ r. ⌜ r ≡ filled (drop 5 (rowRead (now (b .entry)) at .values)) ⌝ }
-    ensures { λ r. ⌜ r < 32 ⌝ }
-{
-    filled_five(
-        three(b, at, 14),
-        two(b, at, 17),
-        two(b, at, 19),
-        two(b, at, 21),
-        three(b, at, 23),
-    )
-}
-
-fn filled_all(b: &[u8], at: usize) -> u32
-    requires { ⌜ at + rowWidth ≤ length (now b) ⌝ }
-    ensures { λ r. ⌜ r ≡ filled (rowRead (now (b .entry)) at .values) ⌝ }
-{
-    let last = filled_last(b, at);
-    filled_five(
-        wide(one(b, at, 4)),
-        wide(one(b, at, 5)),
-        wide(one(b, at, 6)),
-        four(b, at, 7),
-        three(b, at, 11),
-    )
-        + 32 * last
-}
-
-// The criteria that a row fills where each of its values is in its range; else NO_CRITERIA.
-pub fn filled(b: &[u8], at: usize) -> u32
+pub(crate) fn filled(b: &[u8], at: usize) -> u32
     requires { ⌜ at + rowWidth ≤ length (now b) ⌝ }
     ensures { λ r. ⌜ r ≡ filledOr (rowRead (now (b .entry)) at .values) ⌝ }
 {
-    if no(values_fit(b, at)) {
-        return NO_CRITERIA;
-    }
-    filled_all(b, at)
+    let names = filled_names(b, at);
+    let payment = more_up(wide(one(b, at, 6)), 2, names);
+    let movement = more_up(wide(one(b, at, 5)), 2, payment);
+    more_up(wide(one(b, at, 4)), 3, movement)
 }

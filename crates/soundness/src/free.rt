@@ -16,14 +16,14 @@ ghost use Rattle.places.specs.Layout.{typeWidth, ruleWidth, rowWidth, periodWid
 ghost use Rattle.records.specs.Free.{typeZero, ruleZero, rowZero, periodZero};
 ghost use Rattle.soundness.specs.Reads.{typeRead, ruleRead, rowRead, periodRead};
 
-pub fn type_free(b: &[u8], at: usize) -> bool
+pub(crate) fn type_free(b: &[u8], at: usize) -> bool
     requires { ⌜ at + typeWidth ≤ length (now b) ⌝ }
     ensures { λ r. ⌜ r ≡ typeZero (typeRead (now (b .entry)) at) ⌝ }
 {
     and(four(b, at, 0) == 0, eight(b, at, 4) == 0)
 }
 
-pub fn rule_free(b: &[u8], at: usize) -> bool
+pub(crate) fn rule_free(b: &[u8], at: usize) -> bool
     requires { ⌜ at + ruleWidth ≤ length (now b) ⌝ }
     ensures { λ r. ⌜ r ≡ ruleZero (ruleRead (now (b .entry)) at) ⌝ }
 {
@@ -31,7 +31,7 @@ pub fn rule_free(b: &[u8], at: usize) -> bool
     and(key, and(three(b, at, 4) == 0, eight(b, at, 7) == 0))
 }
 
-pub fn row_free(b: &[u8], at: usize) -> bool
+pub(crate) fn row_free(b: &[u8], at: usize) -> bool
     requires { ⌜ at + rowWidth ≤ length (now b) ⌝ }
     ensures { λ r. ⌜ r ≡ rowZero (rowRead (now (b .entry)) at) ⌝ }
 {
@@ -39,7 +39,7 @@ pub fn row_free(b: &[u8], at: usize) -> bool
     and(low, and(eight(b, at, 11) == 0, tail_word(b, at) == 0))
 }
 
-pub fn period_free(b: &[u8], at: usize) -> bool
+pub(crate) fn period_free(b: &[u8], at: usize) -> bool
     requires { ⌜ at + periodWidth ≤ length (now b) ⌝ }
     ensures { λ r. ⌜ r ≡ periodZero (periodRead (now (b .entry)) at) ⌝ }
 {
@@ -63,7 +63,7 @@ fn words_zero(b: &[u8], from: usize, n: usize) -> bool
 
 // Whether sixteen places of a width are free: twice their width is how many times eight bytes they have. A first byte
 // that is not 0 answers at once.
-pub fn block_free(b: &[u8], from: usize, width: usize) -> bool
+pub(crate) fn block_free(b: &[u8], from: usize, width: usize) -> bool
     requires { ⌜ 0 < width ⌝ }
     requires { ⌜ from + blockPlaces * width ≤ length (now b) ⌝ }
     ensures { λ r. ⌜ r ≡ zeroFrom (now (b .entry)) from (blockPlaces * width) ⌝ }

@@ -9,14 +9,14 @@ ghost use Rattle.soundness.specs.Reads.{Bytes, eightAt};
 // One more than the greatest number of four bytes.
 const FOUR_BYTES: u64 = 4294967296;
 
-pub fn one(b: &[u8], at: usize, j: usize) -> u8
+pub(crate) fn one(b: &[u8], at: usize, j: usize) -> u8
     requires { ⌜ at + (j + 1) ≤ length (now b) ⌝ }
     ensures { λ r. ⌜ r ≡ number one (now (b .entry)) at j ⌝ }
 {
     b[at + j]
 }
 
-pub fn two(b: &[u8], at: usize, j: usize) -> u32
+pub(crate) fn two(b: &[u8], at: usize, j: usize) -> u32
     requires { ⌜ at + (j + 2) ≤ length (now b) ⌝ }
     ensures { λ r. ⌜ r ≡ number two (now (b .entry)) at j ⌝ }
     ensures { λ r. ⌜ Bytes (now (b .entry)) ⌝ }
@@ -25,7 +25,7 @@ pub fn two(b: &[u8], at: usize, j: usize) -> u32
     wide(b[i]) + 256 * wide(b[i + 1])
 }
 
-pub fn three(b: &[u8], at: usize, j: usize) -> u32
+pub(crate) fn three(b: &[u8], at: usize, j: usize) -> u32
     requires { ⌜ at + (j + 3) ≤ length (now b) ⌝ }
     ensures { λ r. ⌜ r ≡ number three (now (b .entry)) at j ⌝ }
     ensures { λ r. ⌜ Bytes (now (b .entry)) ⌝ }
@@ -34,7 +34,7 @@ pub fn three(b: &[u8], at: usize, j: usize) -> u32
     wide(b[i]) + 256 * wide(b[i + 1]) + 65536 * wide(b[i + 2])
 }
 
-pub fn four(b: &[u8], at: usize, j: usize) -> u32
+pub(crate) fn four(b: &[u8], at: usize, j: usize) -> u32
     requires { ⌜ at + (j + 4) ≤ length (now b) ⌝ }
     ensures { λ r. ⌜ r ≡ number four (now (b .entry)) at j ⌝ }
     ensures { λ r. ⌜ Bytes (now (b .entry)) ⌝ }
@@ -43,7 +43,7 @@ pub fn four(b: &[u8], at: usize, j: usize) -> u32
     wide(b[i]) + 256 * wide(b[i + 1]) + 65536 * wide(b[i + 2]) + 16777216 * wide(b[i + 3])
 }
 
-pub fn eight(b: &[u8], at: usize, j: usize) -> u64
+pub(crate) fn eight(b: &[u8], at: usize, j: usize) -> u64
     requires { ⌜ at + (j + 8) ≤ length (now b) ⌝ }
     ensures { λ r. ⌜ r ≡ eightAt (now (b .entry)) at j ⌝ }
     ensures { λ r. ⌜ Bytes (now (b .entry)) ⌝ }

@@ -1,5 +1,5 @@
 -- `soundness::fits::filled` meets its contract. Assumes nothing.
-use Rattle.soundness.proofs.FitWords.{unfilled, filled-or}
+use Rattle.soundness.proofs.FitWords.{all-filled}
 use borrow.Author.Needs.{needs}
 use Rattle.soundness.proofs.fits.filled.Statement.{statement}
 use Rattle.soundness.proofs.fits.filled.Tie as tie
@@ -10,6 +10,12 @@ filled-spec =
     (tie.spec
     (λ c κs. search needs)
     (λ c κs. search needs)
-    (λ c. search unfilled)
     (λ c κs. search needs)
-    (λ c. search filled-or))
+    (λ c κs. search needs)
+    (λ c κs. search needs)
+    (λ c κs. search needs)
+    (λ c κs. search needs)
+    (λ c κs. search needs)
+    (λ c κs. search needs)
+    (λ c κs. search needs)
+    (λ c. search all-filled))
