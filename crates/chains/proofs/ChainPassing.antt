@@ -1,6 +1,6 @@
 -- One place more of any table: free, or entered into its chain; and the loop over all places.
-use Prim.Native.Nat.{ℕ, zero, suc, _+_, _≤_, _<_}
-use mathlib.Core.Path.{_≡_, sym, ap, _∙_}
+use Prim.Native.Nat.{ℕ, _+_, _≤_, _<_}
+use mathlib.Core.Path.{_≡_, sym, _∙_}
 use mathlib.Core.Bool.{Bool, true, false, _&&_, not, or-false, and-true, and-false, false≢true}
 use mathlib.Core.List.{List}
 use native.Mathlib.Omega.{arith}
@@ -12,7 +12,6 @@ use Rattle.tables.specs.Below.{anyBelow}
 use Rattle.tables.specs.Keyed.{Blank}
 use Rattle.tables.proofs.Counts.{cases, cases-eq, both, all-none, all-more, all-at}
 use Rattle.chains.specs.Sizes.{owners, buckets, mostPlaces, blockPlaces}
-use Rattle.meaning.specs.Fields.{within}
 use Rattle.chains.specs.Chains.{Unchained, Tallied, Entered, Ready, right, Passed, AllPassed, Going, Block}
 use Rattle.chains.proofs.Chaining.{chained-none, chained-free, chained-more, counted-none, counted-free, counted-more}
 

@@ -1,12 +1,12 @@
 -- What the arms of the matches on a kind ask and return. A new table adds a line to each group.
 use Prim.Native.Nat.{ℕ, _+_, _≤_}
 use mathlib.Core.Path.{_≡_, refl, sym, _∙_}
-use mathlib.Core.Bool.{Bool, true, false, _&&_, not, cond, and-false}
+use mathlib.Core.Bool.{Bool, true, false, _&&_, not, and-false}
 use mathlib.Core.List.{List}
 use borrow.Author.Tests.{not-true, not-false}
 use Rattle.tables.specs.Below.{anyBelow}
-use Rattle.meaning.specs.Forms.{holds, holdsAll, tenValues}
-use Rattle.meaning.specs.Sound.{keyFits, typeFits, ruleFits, rowFits, periodFits}
+use Rattle.meaning.specs.Forms.{holdsAll, tenValues}
+use Rattle.meaning.specs.Sound.{typeFits, ruleFits, rowFits, periodFits}
 use Rattle.places.specs.Layout.{typeWidth, ruleWidth, rowWidth, periodWidth, typePlaces, rulePlaces}
 use Rattle.records.specs.Said.{typeOf, ruleOf, rowOf, periodOf}
 use Rattle.records.specs.Free.{typeZero, ruleZero, rowZero, periodZero}

@@ -1,10 +1,10 @@
 -- What the functions over one place, a block of places and a whole table leave to show, for any kind.
 use Prim.Native.Nat.{ℕ, _+_, _*_, _%_, _≤_, _<_}
 use mathlib.Core.Path.{_≡_, refl, sym, ap, _∙_}
-use mathlib.Core.Bool.{Bool, true, false, _&&_, not, cond, and-false, false≢true}
+use mathlib.Core.Bool.{Bool, true, false, not, and-false, false≢true}
 use mathlib.Core.List.{List}
 use native.Mathlib.Omega.{arith}
-use lib.Dec.{leb, ltb}
+use lib.Dec.{ltb}
 use lib.ListN.{length, getD, set}
 use borrow.Author.Tests.{lt-leb, le-leb, ltb-true, lt-ltb, not-true, not-false}
 use Rattle.tables.specs.Below.{anyBelow}

@@ -1,7 +1,7 @@
 -- What chains need of the records of each table: records that are alike have one depository and one bucket, each is
 -- alike to the other, and a record in its range is alike to itself.
 use Prim.Native.Nat.{ℕ, _/_, _<_}
-use mathlib.Core.Path.{_≡_, refl, sym, ap}
+use mathlib.Core.Path.{_≡_, refl, sym}
 use mathlib.Core.Bool.{true}
 use native.Mathlib.Omega.{arith}
 use lib.Dec.{eqb, leb}

@@ -1,5 +1,4 @@
 -- `soundness::pass` meets its contract. Assumes nothing.
-use native.Mathlib.Omega.{arith}
 use borrow.Author.Needs.{needs}
 use Rattle.soundness.proofs.Walks.{own-within, first-within}
 use Rattle.soundness.proofs.Passes.{used-at, used-of, lone-bucket, lone-inside, entry-inside, pass-free, pass-over, pass-unfit, pass-held, pass-on}
