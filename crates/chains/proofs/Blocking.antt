@@ -1,62 +1,20 @@
 -- Sixteen free places at once: bytes that are all 0 are free places, and the loop over the places may pass them over.
-use Prim.Native.Nat.{ℕ, zero, suc, _+_, _*_, _-_, _≤_, _<_}
-use mathlib.Core.Path.{_≡_, ap, sym, _∙_}
-use mathlib.Core.Bool.{Bool, true, false, _&&_, cond, and-false, false≢true}
+use Prim.Native.Nat.{ℕ, zero, suc, _+_, _-_, _≤_, _<_}
+use mathlib.Core.Path.{_≡_, sym, _∙_}
+use mathlib.Core.Bool.{Bool, true, false≢true}
 use mathlib.Core.List.{List}
 use native.Mathlib.Omega.{arith}
-use lib.Dec.{eqb, ltb}
-use lib.ListN.{length, getD}
-use borrow.Author.Tests.{eqb-true, eq-eqb, ne-eqb, ltb-true, ltb-false, le-leb, lt-leb}
+use lib.Dec.{eqb}
+use lib.ListN.{getD}
+use borrow.Author.Tests.{eqb-true}
 use Rattle.tables.specs.Bytes.{Width, total, byteAt, numbers, zeros}
-use Rattle.tables.proofs.Counts.{cases, cases-eq, all-none, all-more, all-at}
+use Rattle.tables.proofs.Counts.{all-more, all-at}
 use Rattle.tables.proofs.Bytes.{numbers-same}
 use Rattle.tables.proofs.Zeros.{byte-zeros}
 use Rattle.chains.specs.Sizes.{blockPlaces}
 use Rattle.chains.specs.Chains.{right, Going, Block}
-use Rattle.chains.specs.Blocks.{zeroFrom, blockFree}
+use Rattle.chains.specs.Blocks.{zeroFrom}
 use Rattle.chains.proofs.Chaining.{chained-free, counted-free}
-
--- ---- the bytes
-
-pub greater-in : (x y : ℕ) → x < y → y ≡ cond (ltb x y) y x
-greater-in x y l = rw (lt-true x y l)
-  where
-    lt-true : (x y : ℕ) → x < y → ltb x y ≡ true
-    lt-true x y l = cases (ltb x y) (λ e. e) (λ e. absurd (omega (arith, ltb-false x y e)))
-
-pub greater-out : (x y : ℕ) → y ≤ x → x ≡ cond (ltb x y) y x
-greater-out x y l = cases (ltb x y) (λ e. absurd (omega (arith, ltb-true x y e))) (λ e. rw e)
-
--- the greatest of the bytes passed is 0 exactly if they all are
-greater-zero : (x y : ℕ) → eqb (cond (ltb x y) y x) 0 ≡ (eqb x 0 && eqb y 0)
-greater-zero x y =
-    cases (ltb x y)
-    (λ e. rw (e, ne-eqb y 0 (λ z. omega (arith, ltb-true x y e)), and-false))
-    (λ e. cases-eq x 0 (λ z. rw (e, z, eq-eqb y 0 (omega (arith, ltb-false x y e)))) (λ z. rw (e, ne-eqb x 0 z)))
-
-pub zero-none : (b : List ℕ) (from : ℕ) → eqb 0 0 ≡ zeroFrom b from 0
-unfolding zeroFrom
-zero-none b from = sym (all-none _)
-
-pub zero-more : (b : List ℕ) (from j x x′ : ℕ) → x′ ≡ cond (ltb x (getD b (from + j) 0)) (getD b (from + j) 0) x
-    → eqb x 0 ≡ zeroFrom b from j → eqb x′ 0 ≡ zeroFrom b from (j + 1)
-unfolding zeroFrom
-zero-more b from j x x′ e f =
-    rw (all-more, ← f) (ap (λ z. eqb z 0) e ∙ greater-zero x (getD b (from + j) 0))
-
--- ---- what `block_free` leaves to show
-
-pub block-past : (b : List ℕ) (i start width at : ℕ) → length b < at + blockPlaces * width → at ≡ start + i * width
-    → false ≡ blockFree b i start width
-unfolding blockFree
-block-past b i start width at l e = rw (← e, lt-leb (at + blockPlaces * width) (length b) l)
-
-pub block-in : (b : List ℕ) (i start width at : ℕ) (r : Bool) → r ≡ zeroFrom b at (blockPlaces * width)
-    → at + blockPlaces * width ≤ length b → at ≡ start + i * width → r ≡ blockFree b i start width
-unfolding blockFree
-block-in b i start width at r h l e = rw (← e, le-leb (at + blockPlaces * width) (length b) l) h
-
--- ---- the places
 
 -- A place whose bytes are all 0 reads as one of a book of zeros.
 pub zero-numbers : (ws : List Width) (b : List ℕ) (from n at : ℕ) → zeroFrom b from n ≡ true → from ≤ at
@@ -70,14 +28,14 @@ zero-numbers ws b from n at e l h = numbers-same ws (zeros 0) b at 0 (λ k low h
         rw j at (eqb-true (getD b (from + (k - from)) 0) 0 (all-at (λ j. eqb (getD b (from + j) 0) 0) n e (k - from) (omega arith)))
         ∙ sym (byte-zeros 0 k)
 
-module _ (csd bucket : ℕ → ℕ) (size places : ℕ) (free rest : ℕ → Bool) (p : ℕ → ℕ → Bool) (q : ℕ) (nobody : (k : ℕ) → free k ≡ true → csd k ≡ 0) (counts head next : List ℕ) where
+module _ (csd bucket : ℕ → ℕ) (places : ℕ) (free rest : ℕ → Bool) (p : ℕ → ℕ → Bool) (q : ℕ) (nobody : (k : ℕ) → free k ≡ true → csd k ≡ 0) (counts head next : List ℕ) where
   free-right : (k : ℕ) → free k ≡ true → right csd free rest p q k ≡ true
   unfolding right
   free-right k z = rw z
 
-  going-over : (i m : ℕ) → Going csd bucket size places (right csd free rest p q) i counts head next → i + m ≤ places
+  going-over : (i m : ℕ) → Going csd bucket places (right csd free rest p q) i counts head next → i + m ≤ places
       → ((k : ℕ) → i ≤ k → k < i + m → free k ≡ true)
-      → Going csd bucket size places (right csd free rest p q) (i + m) counts head next
+      → Going csd bucket places (right csd free rest p q) (i + m) counts head next
   going-over i zero g l f = let e : i + 0 ≡ i = omega arith in rw e g
   going-over i (suc m) g l f =
       let r = going-over i m g (omega arith) (λ k low high. f k low (omega arith)) in
@@ -88,10 +46,10 @@ module _ (csd bucket : ℕ → ℕ) (size places : ℕ) (free rest : ℕ → Boo
         few = omega arith;
         all = rw (all-more, r .all) (free-right (i + m) z);
         counted = counted-free csd counts (i + m) (r .counted) (nobody (i + m) z);
-        chained = chained-free csd bucket size places head next (i + m) (r .chained) (nobody (i + m) z);
+        chained = chained-free csd bucket head next (i + m) (r .chained) (nobody (i + m) z);
       })
 
-  pub block-over : (i : ℕ) → Going csd bucket size places (right csd free rest p q) i counts head next
+  pub block-over : (i : ℕ) → Going csd bucket places (right csd free rest p q) i counts head next
       → i + blockPlaces ≤ places → ((k : ℕ) → i ≤ k → k < i + blockPlaces → free k ≡ true)
-      → Block csd bucket size places (right csd free rest p q) i true counts head next
+      → Block csd bucket places (right csd free rest p q) i true counts head next
   block-over i g l f = record { going = λ y. going-over i blockPlaces g l f; fails = λ y. absurd (false≢true (sym y)) }

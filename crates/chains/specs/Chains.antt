@@ -1,22 +1,16 @@
 -- Places of a table in chains: a place is compared only with those before it that have its bucket, a number computed
 -- from its record. A chain names a place by its number plus 1; 0 is the end. Assumes nothing.
-use Prim.Native.Nat.{ℕ, zero, suc, _+_, _-_, _≤_, _<_, _%_}
+use Prim.Native.Nat.{ℕ, zero, suc, _+_, _-_, _≤_, _<_}
 use mathlib.Core.Path.{_≡_}
 use mathlib.Core.Bool.{Bool, true, false, _&&_, _||_, not, cond}
 use mathlib.Core.List.{List}
-use lib.Dec.{eqb, ltb}
+use lib.Dec.{eqb, leb, ltb}
 use lib.ListN.{length, getD, set}
 use Rattle.tables.specs.Count.{countBelow, allBelow}
 use Rattle.tables.specs.Below.{anyBelow}
 use Rattle.tables.specs.Keyed.{Blank}
-use Rattle.chains.specs.Sizes.{owners, blockPlaces}
+use Rattle.chains.specs.Sizes.{owners, buckets, mostPlaces, blockPlaces}
 use Rattle.meaning.specs.Fields.{within}
-
--- whether p holds at one of the first n places of the chain that starts at k
-unfoldable pub chainHas : List ℕ → (ℕ → Bool) → ℕ → ℕ → Bool
-chainHas next p zero k = false
-chainHas next p (suc n) zero = false
-chainHas next p (suc n) (suc k) = p k || chainHas next p n (getD next k 0)
 
 -- the last place below n where p holds, plus 1; 0 where there is none
 unfoldable pub lastBelow : (ℕ → Bool) → ℕ → ℕ
@@ -36,21 +30,33 @@ pub record Counted (csd : ℕ → ℕ) (counts : List ℕ) (i : ℕ) : Type 0 wh
 
 -- the used places below i in chains, the last first: head has the start of each bucket's chain, next what follows a
 -- place
-pub record Chained (csd bucket : ℕ → ℕ) (size places : ℕ) (head next : List ℕ) (i : ℕ) : Type 0 where
-  pub heads : length head ≡ size
-  pub nexts : length next ≡ places
-  pub starts : (k : ℕ) → k < size → getD head k 0 ≡ lastBelow (inBucket csd bucket k) i
+pub record Chained (csd bucket : ℕ → ℕ) (head next : List ℕ) (i : ℕ) : Type 0 where
+  pub heads : length head ≡ buckets
+  pub nexts : length next ≡ mostPlaces
+  pub starts : (k : ℕ) → k < buckets → getD head k 0 ≡ lastBelow (inBucket csd bucket k) i
   pub follows : (j : ℕ) → j < i → (csd j ≡ 0 → ⊥) → getD next j 0 ≡ lastBelow (inBucket csd bucket (bucket j)) j
 
 -- tables without a place
-pub record Unchained (size places : ℕ) (head next : List ℕ) : Type 0 where
-  pub heads : Blank size head
-  pub nexts : Blank places next
+pub record Unchained (head next : List ℕ) : Type 0 where
+  pub heads : Blank buckets head
+  pub nexts : Blank mostPlaces next
 
--- place i of depository c entered into the chain of the bucket k
-pub record Entered (c k i : ℕ) (counts head next counts′ head′ next′ : List ℕ) : Type 0 where
-  pub counted : counts′ ≡ set counts c ((getD counts c 0 + 1) % 65536)
-  pub headed : head′ ≡ set head k ((i + 1) % 65536)
+-- a walk along the chain of the bucket k, where only places of the bucket are asked for, has come to j: the places below
+-- j answer for those below i
+pub record Walking (csd bucket : ℕ → ℕ) (k : ℕ) (p : ℕ → Bool) (i j : ℕ) : Type 0 where
+  pub only : (n : ℕ) → p n ≡ true → inBucket csd bucket k n ≡ true
+  pub few : j ≤ i
+  pub here : (j ≡ 0 → ⊥) → inBucket csd bucket k (j - 1) ≡ true
+  pub left : anyBelow p j ≡ anyBelow p i
+
+-- whether c is a depository below its quota, which is then counted
+pub record Tallied (c q : ℕ) (answer : Bool) (counts counts′ : List ℕ) : Type 0 where
+  pub answered : answer ≡ (leb c 8 && ltb (getD counts c 0) q)
+  pub stored : answer ≡ true → counts′ ≡ set counts c (getD counts c 0 + 1)
+
+-- place i entered into the chain of the bucket k
+pub record Entered (k i : ℕ) (head next head′ next′ : List ℕ) : Type 0 where
+  pub headed : head′ ≡ set head k (i + 1)
   pub linked : next′ ≡ set next i (getD head k 0)
 
 -- ---- a place of a table, judged by those before it
@@ -64,40 +70,31 @@ module _ (csd : ℕ → ℕ) (free rest : ℕ → Bool) (p : ℕ → ℕ → Boo
       || (within 1 8 (csd k)
       && (rest k && (not (anyBelow (p k) k) && ltb (countBelow (λ j. eqb (csd j) (csd k)) k) q)))
 
--- the same as it is tested: held says whether a place before is as it may not be; c is its depository
-unfoldable pub rightBy : Bool → Bool → ℕ → ℕ → List ℕ → Bool
-rightBy rest held q c counts = within 1 8 c && (rest && (not held && ltb (getD counts c 0) q))
-
 -- what one place leaves, and what the places below n leave: the answer, and the chains where all are right
 
-pub record Passed (csd bucket : ℕ → ℕ) (size places : ℕ) (good : ℕ → Bool) (i : ℕ) (answer : Bool) (counts head next : List ℕ) : Type 0 where
+pub record Passed (csd bucket : ℕ → ℕ) (good : ℕ → Bool) (i : ℕ) (answer : Bool) (counts head next : List ℕ) : Type 0 where
   pub answered : answer ≡ good i
   pub counted : answer ≡ true → Counted csd counts (i + 1)
-  pub chained : answer ≡ true → Chained csd bucket size places head next (i + 1)
+  pub chained : answer ≡ true → Chained csd bucket head next (i + 1)
 
-pub record AllPassed (csd bucket : ℕ → ℕ) (size places : ℕ) (good : ℕ → Bool) (answer : Bool) (head next : List ℕ) : Type 0 where
+pub record AllPassed (csd bucket : ℕ → ℕ) (places : ℕ) (good : ℕ → Bool) (answer : Bool) (head next : List ℕ) : Type 0 where
   pub answered : answer ≡ allBelow good places
-  pub chained : answer ≡ true → Chained csd bucket size places head next places
+  pub chained : answer ≡ true → Chained csd bucket head next places
 
 -- what is known before place i: it is one of the table's, and those before it are counted and in chains
-pub record Ready (csd bucket : ℕ → ℕ) (size places i : ℕ) (counts head next : List ℕ) : Type 0 where
+pub record Ready (csd bucket : ℕ → ℕ) (places i : ℕ) (counts head next : List ℕ) : Type 0 where
   pub place : i < places
   pub counted : Counted csd counts i
-  pub chained : Chained csd bucket size places head next i
-
--- a walk of s places along the chain from start has come to k: what is left of the chain answers for the whole
-pub record Walking (next : List ℕ) (p : ℕ → Bool) (n start s k : ℕ) : Type 0 where
-  pub steps : s ≤ n
-  pub left : chainHas next p (n - s) k ≡ chainHas next p n start
+  pub chained : Chained csd bucket head next i
 
 -- the places below i are each right, counted and in chains
-pub record Going (csd bucket : ℕ → ℕ) (size places : ℕ) (good : ℕ → Bool) (i : ℕ) (counts head next : List ℕ) : Type 0 where
+pub record Going (csd bucket : ℕ → ℕ) (places : ℕ) (good : ℕ → Bool) (i : ℕ) (counts head next : List ℕ) : Type 0 where
   pub few : i ≤ places
   pub all : allBelow good i ≡ true
   pub counted : Counted csd counts i
-  pub chained : Chained csd bucket size places head next i
+  pub chained : Chained csd bucket head next i
 
 -- what sixteen places from i on leave
-pub record Block (csd bucket : ℕ → ℕ) (size places : ℕ) (good : ℕ → Bool) (i : ℕ) (answer : Bool) (counts head next : List ℕ) : Type 0 where
-  pub going : answer ≡ true → Going csd bucket size places good (i + blockPlaces) counts head next
+pub record Block (csd bucket : ℕ → ℕ) (places : ℕ) (good : ℕ → Bool) (i : ℕ) (answer : Bool) (counts head next : List ℕ) : Type 0 where
+  pub going : answer ≡ true → Going csd bucket places good (i + blockPlaces) counts head next
   pub fails : answer ≡ false → allBelow good places ≡ false

@@ -1,1 +1,2 @@
 pub mod RangeReturns
+pub mod DateReturns

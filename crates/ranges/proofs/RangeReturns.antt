@@ -3,11 +3,11 @@ use Prim.Native.Nat.{ℕ}
 use mathlib.Core.Path.{_≡_, sym, ap}
 use mathlib.Core.Bool.{Bool, true, _&&_, not}
 use mathlib.Core.List.{List}
-use lib.Dec.{eqb, leb}
+use lib.Dec.{eqb}
 use lib.ListN.{length, getD}
 use Rattle.tables.specs.Count.{every}
 use Rattle.meaning.specs.Fields.{within}
-use Rattle.meaning.specs.Forms.{isDay, code, holds, holdsAll, optional, upTo, tenValues}
+use Rattle.meaning.specs.Forms.{code, holds, holdsAll, optional, upTo, tenValues}
 use Rattle.meaning.specs.Sound.{daysFit, keyFits, typeFits, ruleFits, rowFits, periodFits}
 use Rattle.places.proofs.TenValues.{ten}
 use Rattle.places.specs.declared.RestrictionType.{RestrictionType}
@@ -19,11 +19,6 @@ use Rattle.records.specs.Criteria.{filledCount}
 use Rattle.records.specs.Free.{allZero, typeZero, ruleZero, rowZero, periodZero}
 use Rattle.records.proofs.Filled.{none-filled}
 use Rattle.ranges.specs.Values.{codesFit, namesFit}
-
-pub days-said : (first last : ℕ) {r d e f : Bool} → r ≡ (d && e) → e ≡ (f && leb first last) → f ≡ isDay last
-    → d ≡ isDay first → r ≡ daysFit first last
-unfolding daysFit holds
-days-said first last a b c d = rw (a, b, c, d)
 
 pub type-said : (t : RestrictionType) {r k y x d s n h : Bool} → r ≡ (k && y) → y ≡ (x && d) → x ≡ (s && n)
     → s ≡ within 1 3 (t .processing) → k ≡ keyFits (t .number) (t .object)

@@ -1,7 +1,13 @@
+pub mod Records
+pub mod KindFacts
+pub mod KindReturns
+pub mod Walks
+pub mod Passes
 pub mod Decided
-pub mod TypeTable
-pub mod RuleTable
-pub mod RowTable
-pub mod PeriodTable
 pub mod WholeTable
 pub mod Stages
+pub mod WordReads
+pub mod SameWords
+pub mod FreeWords
+pub mod BucketWords
+pub mod FitWords

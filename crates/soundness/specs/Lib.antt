@@ -1,2 +1,5 @@
 pub mod Places
-pub mod Tables
+pub mod Reads
+pub mod Alike
+pub mod Buckets
+pub mod Kinds

@@ -1,6 +1,6 @@
 -- `soundness::sound_rows` meets its contract. Assumes nothing.
-use Rattle.soundness.proofs.Stages.{rules-chained, rules-fail, rows-end}
 use borrow.Author.Needs.{needs}
+use Rattle.soundness.proofs.Stages.{rules-chained, rules-fail, rows-end}
 use Rattle.soundness.proofs.sound_rows.Statement.{statement}
 use Rattle.soundness.proofs.sound_rows.Tie as tie
 
@@ -13,7 +13,6 @@ sound-rows-spec =
     (λ c. search needs)
     (λ c. search needs)
     (λ c κs. search needs)
-    (λ c κs. search needs)
     (λ c. search rules-fail)
     (λ c κs. search needs)
     (λ c κs. search needs)
@@ -21,5 +20,5 @@ sound-rows-spec =
     (λ c. search needs)
     (λ c. search needs)
     (λ c. search needs)
-    (λ c κs. (search rules-chained, search needs))
+    (λ c κs. (search needs, (search rules-chained, search needs)))
     (λ c. search rows-end))
