@@ -1,18 +1,18 @@
 -- Dates by their month and day, with the lengths of the months in one number.
 use Prim.Native.Nat.{ℕ, _+_, _*_, _-_, _/_, _%_, _^_, _≤_, _<_}
-use mathlib.Core.Path.{_≡_, refl, sym, ap, _∙_}
-use mathlib.Core.Bool.{Bool, true, false, _&&_, not, cond, and-false}
+use mathlib.Core.Path.{_≡_, refl, sym, _∙_}
+use mathlib.Core.Bool.{Bool, true, false, _&&_, not}
 use native.Mathlib.Omega.{arith}
 use lib.Bits.{bitAnd, and-le-r}
 use mir.Syntax.{w32}
 use mir.Val.{Fits}
 use lib.Dec.{eqb, leb, ltb}
 use lib.ListN.{getD}
-use borrow.Author.Tests.{eqb-true, eq-eqb, leb-true, leb-false, le-leb, lt-leb, ltb-true, lt-ltb, not-true, not-false}
+use borrow.Author.Tests.{eqb-true, eq-eqb, leb-true, leb-false, le-leb, ltb-true, lt-ltb, not-true, not-false}
 use Rattle.tables.specs.Count.{allBelow}
 use Rattle.tables.proofs.Counts.{cases, both, and-l, and-r, agree, all-at}
 use Rattle.meaning.specs.Fields.{within}
-use Rattle.meaning.specs.Forms.{months, monthLength, isDay, holds}
+use Rattle.meaning.specs.Forms.{months, monthLength, holds}
 use Rattle.meaning.specs.Sound.{daysFit}
 use Rattle.ranges.specs.Values.{monthDay}
 

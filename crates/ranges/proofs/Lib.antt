@@ -1,2 +1,1 @@
-pub mod RangeReturns
 pub mod DateReturns

@@ -80,7 +80,7 @@ fn periods() -> Table
     }
 }
 
-pub fn table_of(kind: Kind) -> Table
+pub(crate) fn table_of(kind: Kind) -> Table
     ensures { λ r. ⌜ r ≡ tableOf kind ⌝ }
     ensures { λ r. ⌜ r .places ≤ mostPlaces ⌝ }
 {
@@ -94,7 +94,7 @@ pub fn table_of(kind: Kind) -> Table
 
 // ---- The record at an address, by the kind of its table.
 
-pub fn place_free(b: &[u8], kind: Kind, at: usize) -> bool
+pub(crate) fn place_free(b: &[u8], kind: Kind, at: usize) -> bool
     requires { ⌜ at + tableOf kind .width ≤ length (now b) ⌝ }
     ensures { λ r. ⌜ r ≡ freeAt (now (b .entry)) kind at ⌝ }
 {
@@ -107,7 +107,7 @@ pub fn place_free(b: &[u8], kind: Kind, at: usize) -> bool
 }
 
 // Whether it cannot stand beside the record at another address.
-pub fn alike(b: &[u8], kind: Kind, at: usize, other: usize) -> bool
+pub(crate) fn alike(b: &[u8], kind: Kind, at: usize, other: usize) -> bool
     requires { ⌜ at + tableOf kind .width ≤ length (now b) ⌝ }
     requires { ⌜ other + tableOf kind .width ≤ length (now b) ⌝ }
     ensures { λ r. ⌜ r ≡ alikeAt (now (b .entry)) kind at other ⌝ }

@@ -127,7 +127,7 @@ fn lone_period(b: &[u8], at: usize) -> usize
     }
 }
 
-pub fn lone(b: &[u8], kind: Kind, at: usize, starts: &[u16], links: &[u16]) -> usize
+pub(crate) fn lone(b: &[u8], kind: Kind, at: usize, starts: &[u16], links: &[u16]) -> usize
     requires { ⌜ length (now b) ≡ bookSize ⌝ }
     requires { ⌜ at + tableOf kind .width ≤ length (now b) ⌝ }
     requires { ⌜ (csdAt (now b) at ≡ 0 → ⊥) ⌝ }
