@@ -89,10 +89,6 @@ module _ (csd bucket : ℕ → ℕ) (places : ℕ) (good : ℕ → Bool) where
     chained = chained-none csd bucket head next u;
   }
 
-  pub going-ready : (i : ℕ) (counts head next : List ℕ) → Going csd bucket places good i counts head next → i < places
-      → Ready csd bucket places i counts head next
-  going-ready i counts head next g l = record { place = l; counted = g .counted; chained = g .chained }
-
   pub going-on : (i : ℕ) (r : Bool) (counts head next counts′ head′ next′ : List ℕ)
       → Passed csd bucket good i r counts′ head′ next′ → not r ≡ false → i < places
       → Going csd bucket places good i counts head next → Going csd bucket places good (i + 1) counts′ head′ next′
@@ -105,7 +101,7 @@ module _ (csd bucket : ℕ → ℕ) (places : ℕ) (good : ℕ → Bool) where
         chained = m .chained y;
       }
 
-  -- one place of sixteen fails, or all are passed
+  -- one place of a block fails, or all are passed
 
   pub block-fails : (from i : ℕ) (r : Bool) (counts′ head′ next′ : List ℕ)
       → Passed csd bucket good i r counts′ head′ next′ → not r ≡ true → i < from + blockPlaces

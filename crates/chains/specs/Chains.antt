@@ -94,7 +94,7 @@ pub record Going (csd bucket : ℕ → ℕ) (places : ℕ) (good : ℕ → Bool)
   pub counted : Counted csd counts i
   pub chained : Chained csd bucket head next i
 
--- what sixteen places from i on leave
+-- what a block of places from i on leaves
 pub record Block (csd bucket : ℕ → ℕ) (places : ℕ) (good : ℕ → Bool) (i : ℕ) (answer : Bool) (counts head next : List ℕ) : Type 0 where
   pub going : answer ≡ true → Going csd bucket places good (i + blockPlaces) counts head next
   pub fails : answer ≡ false → allBelow good places ≡ false

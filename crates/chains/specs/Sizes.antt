@@ -15,4 +15,4 @@ mostPlaces = 1024
 
 -- how many places are seen at once to be free
 abbrev pub blockPlaces : ℕ
-blockPlaces = 16
+blockPlaces = 32

@@ -13,7 +13,7 @@ pub const BUCKETS: usize = 2048;
 pub const MOST_PLACES: usize = 1024;
 
 // How many places are seen at once to be free.
-pub const BLOCK: u16 = 16;
+pub const BLOCK: u16 = 32;
 
 // No depository has a place.
 pub fn no_counts() -> [u16; OWNERS]

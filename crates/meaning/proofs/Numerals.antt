@@ -35,13 +35,3 @@ numeral-one n h =
 pub numeral-more : (n : ℕ) → 10 ≤ n → numeral n ≡ numeral (n / 10) ++ ((48 + n % 10) ∷ [])
 unfolding numeral
 numeral-more n h = ap (λ l. l ++ ((48 + n % 10) ∷ [])) (digits-numeral (n / 10) (omega arith))
-
--- ---- up to three digits
-
-pub numeral-two : (n : ℕ) → 10 ≤ n → n < 100 → numeral n ≡ (48 + n / 10) ∷ (48 + n % 10) ∷ []
-numeral-two n h j = rw (numeral-more n h, numeral-one (n / 10) (omega arith))
-
-pub numeral-three : (n : ℕ) → 100 ≤ n → n < 1000 → numeral n ≡ (48 + n / 100) ∷ (48 + n / 10 % 10) ∷ (48 + n % 10) ∷ []
-numeral-three n h j =
-    let q : n / 10 / 10 ≡ n / 100 = omega arith in
-    rw (numeral-more n (omega arith), numeral-two (n / 10) (omega arith) (omega arith), q)

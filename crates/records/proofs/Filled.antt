@@ -2,7 +2,7 @@
 -- filled, and then as many belong to them as values are filled.
 use Prim.Native.Nat.{ℕ, zero, suc, _+_, _*_, _/_, _%_, _^_, _≤_, _<_}
 use mathlib.Core.Path.{_≡_, refl, sym, _∙_, ap}
-use mathlib.Core.Bool.{Bool, false, _&&_, not}
+use mathlib.Core.Bool.{Bool, false, _&&_}
 use mathlib.Core.List.{List, [], _∷_}
 use native.Mathlib.Nat.{pow-succ', div-eq-of-lt, lt-of-lt-of-le}
 use native.Mathlib.Omega.{arith}
@@ -13,10 +13,9 @@ use lib.Pow.{shr-shr, pow-mono}
 use lib.Count.{ones, ones-step}
 use borrow.Author.Tests.{lt-ltb, ltb-true, eq-eqb, ne-eqb, eqb-true}
 use Rattle.tables.specs.Count.{bit, count, allBelow}
-use Rattle.tables.proofs.Counts.{cases-eq, both, agree, all-at, all-put, bit-most, count-ext, every-count}
+use Rattle.tables.proofs.Counts.{cases-eq, both, agree, all-at, all-put, bit-most}
 use Rattle.meaning.specs.Keys.{filled}
 use Rattle.records.specs.Criteria.{belongs, agrees, filledCount}
-use Rattle.records.specs.Free.{allZero}
 
 filled-cons : (x : ℕ) (v : List ℕ) → filled (x ∷ v) ≡ bit (ltb 0 x) + 2 * filled v
 filled-cons zero v = omega arith
@@ -63,14 +62,6 @@ ones-filled : (v : List ℕ) → ones (filled v) ≡ filledCount v
 unfolding filledCount count ones
 ones-filled [] = refl
 ones-filled (x ∷ v) = omega (arith, ones-step (filled (x ∷ v)), filled-low x v, ap ones (filled-half x v), ones-filled v)
-
--- no value is filled: each is 0
-pub none-filled : (v : List ℕ) → eqb (filledCount v) 0 ≡ allZero v
-unfolding filledCount allZero
-none-filled v = rw (count-ext (ltb 0) (λ n. not (eqb n 0)) v filled) (sym (every-count (λ n. eqb n 0) v))
-  where
-    filled : (n : ℕ) → ltb 0 n ≡ not (eqb n 0)
-    filled n = cases-eq n 0 (λ e. rw e) (λ e. rw (lt-ltb 0 n (omega arith), ne-eqb n 0 e))
 
 -- ---- what the code finds
 

@@ -87,7 +87,7 @@ module _ (b : List ℕ) (at : ℕ) where
       )
       (zero-split (numbers kindWidths b at 0 ++ numbers (three ∷ []) b at 2) (numbers (two ∷ []) b at 5 ++ numbers dayWidths b at 7))
 
--- ---- sixteen places
+-- ---- a block of places
 
 or-zero : (x w : ℕ) → eqb (bitOr x w) 0 ≡ (eqb x 0 && eqb w 0)
 or-zero x w =
@@ -171,5 +171,5 @@ module _ (b : List ℕ) (at : ℕ) where
       (λ t. absurd (n (e ∙ eqb-true (getD b (at + 0) 0) 0 (all-at (λ j. eqb (getD b (at + j) 0) 0) (blockPlaces * width) t 0 (omega (arith, l))))))
       sym
 
-  pub block-free : (width : ℕ) {r : Bool} → r ≡ zeroFrom b at (8 * (2 * width)) → r ≡ zeroFrom b at (blockPlaces * width)
-  block-free width e = let z : 8 * (2 * width) ≡ blockPlaces * width = omega arith in rw z at e
+  pub block-free : (width : ℕ) {r : Bool} → r ≡ zeroFrom b at (8 * (4 * width)) → r ≡ zeroFrom b at (blockPlaces * width)
+  block-free width e = let z : 8 * (4 * width) ≡ blockPlaces * width = omega arith in rw z at e

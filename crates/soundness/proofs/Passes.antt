@@ -168,7 +168,7 @@ module _ (b : List ℕ) (t : Table) (from : ℕ) (p : PlaceOf b t from) (h : fro
   block-failed i r counts head next m f u =
       block-fails (csdOf b (t .kind)) (bucketOf b (t .kind)) (tableOf (t .kind) .places) (rightOf b (t .kind)) from i r counts head next m f u l
 
-  -- Sixteen places whose bytes are all 0 are free.
+  -- A block of places whose bytes are all 0 are free.
   pub block-free : (at : ℕ) (r : Bool) (counts head next : List ℕ) → r ≡ zeroFrom b at (blockPlaces * t .width)
       → r ≡ true → at ≡ t .start + from * t .width
       → Going (csdOf b (t .kind)) (bucketOf b (t .kind)) (tableOf (t .kind) .places) (rightOf b (t .kind)) from counts head next

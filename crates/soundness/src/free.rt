@@ -47,7 +47,7 @@ pub(crate) fn period_free(b: &[u8], at: usize) -> bool
     and(of, and(two(b, at, 5) == 0, eight(b, at, 7) == 0))
 }
 
-// ---- Sixteen places at once.
+// ---- A block of places at once.
 
 // Whether n times eight bytes from an index on are all 0.
 fn words_zero(b: &[u8], from: usize, n: usize) -> bool
@@ -61,8 +61,8 @@ fn words_zero(b: &[u8], from: usize, n: usize) -> bool
     x == 0
 }
 
-// Whether sixteen places of a width are free: twice their width is how many times eight bytes they have. A first byte
-// that is not 0 answers at once.
+// Whether a block of places of a width is free: four times the width is how many times eight bytes its 32 places have. A
+// first byte that is not 0 answers at once.
 pub(crate) fn block_free(b: &[u8], from: usize, width: usize) -> bool
     requires { ⌜ 0 < width ⌝ }
     requires { ⌜ from + blockPlaces * width ≤ length (now b) ⌝ }
@@ -71,5 +71,5 @@ pub(crate) fn block_free(b: &[u8], from: usize, width: usize) -> bool
     if one(b, from, 0) != 0 {
         return false;
     }
-    words_zero(b, from, 2 * width)
+    words_zero(b, from, 4 * width)
 }

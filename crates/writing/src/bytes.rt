@@ -57,14 +57,24 @@ fn digit(n: u32) -> u8
 }
 
 // The digits of a number more, without leading zeros: those of its tenth, and the last one.
+fn add_digits(w: Written, n: u32) -> Written
+    ensures { λ r. ⌜ r ≡ addedAll w (numeral n) ⌝ }
+{
+    if n < 10 {
+        return add(w, digit(n));
+    }
+    let v = add_digits(w, n / 10);
+    add(v, digit(n % 10))
+}
+
+// The digits of a number more. Most of an answer's numbers have one digit, which needs no call.
 pub fn add_number(w: Written, n: u32) -> Written
     ensures { λ r. ⌜ r ≡ addedAll w (numeral n) ⌝ }
 {
     if n < 10 {
         return add(w, digit(n));
     }
-    let v = add_number(w, n / 10);
-    add(v, digit(n % 10))
+    add_digits(w, n)
 }
 
 // Numbers more, each behind a comma.
