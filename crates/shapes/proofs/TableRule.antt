@@ -4,10 +4,10 @@ use Prim.Native.Nat.{ℕ, zero, suc, _+_, _≤_, _<_}
 use native.Mathlib.Omega.{arith}
 use mathlib.Core.Bool.{Bool, true, cond}
 use mathlib.Core.List.{List, [], _∷_, _++_, map}
-use lib.Dec.{eqb, ltb, lit≤}
+use lib.Dec.{eqb, ltb, lit≤, lit<}
 use borrow.Author.Tests.{eqb-true, ltb-true, ltb-false}
 use Rattle.tables.specs.Count.{every}
-use Rattle.tables.proofs.Counts.{both, cases}
+use Rattle.tables.proofs.Counts.{both, cases, cases-eq}
 use Rattle.tables.proofs.Entries.{map-entry}
 use lib.Seq.{getD-take}
 use lib.ListN.{length, getD, take, replicate, List·getD-eq-default, List·getD-map}
@@ -108,6 +108,15 @@ module _ {p n : ℕ} (r : Row p n) where
 
   pub row-form : (k : ℕ) → k < 15 → formAt (getD (getD numbers n []) k 0) ≡ getD (formsAt p) k csdForm
   row-form k h = numbered-form n k (r .few) h ∙ ap (λ φs. getD φs k csdForm) same-forms
+
+-- an arm of a match on a row's number, and the last, which is Q's and that of every number past the table
+pub arm-form : (p n k : ℕ) → p ≡ n → n < rows → k < 15 → formAt (getD (getD numbers n []) k 0) ≡ getD (formsAt p) k csdForm
+arm-form p n k e h = row-form (record { few = h; same = sym (ap shapeAt e) }) k
+
+pub last-arm : (p k : ℕ) → 9 ≤ p → k < 15 → formAt (getD (getD numbers 9 []) k 0) ≡ getD (formsAt p) k csdForm
+last-arm p k h =
+    let r : Row p 9 = cases-eq p 9 (λ e. rw e (row-held 9 (lit< tt))) (λ n. row-past p (omega (arith, h, n))) in
+    row-form r k
 
 -- every number is that of a row
 some-row : (p : ℕ) → Counted p (getD counts (cond (ltb p rows) p 9) 0)

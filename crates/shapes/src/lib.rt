@@ -100,19 +100,27 @@ const LETTERS: [u8; 10] = [b'T', b'E', b'R', b'O', b'D', b'M', b'N', b'A', b'Z',
 // How many fields stand after each row's letter.
 const COUNTS: [usize; 10] = [7, 5, 9, 6, 5, 15, 15, 7, 7, 11];
 
-// The forms of the fields after each row's letter. What stands after the last field is never read.
-const FORMS: [[u8; 15]; 10] = [
-    [CS, DY, TY, OB, PR, DY, DY, 0, 0, 0, 0, 0, 0, 0, 0],
-    [CS, DY, TY, OB, DY, 0, 0, 0, 0, 0, 0, 0, 0, 0, 0],
-    [CS, DY, TY, OB, SQ, SG, CR, DY, DY, 0, 0, 0, 0, 0, 0],
-    [CS, DY, TY, OB, SQ, SQ, 0, 0, 0, 0, 0, 0, 0, 0, 0],
-    [CS, DY, TY, OB, SQ, 0, 0, 0, 0, 0, 0, 0, 0, 0, 0],
-    [CS, DY, TY, OB, SQ, V0, V1, V2, V3, V4, V5, V6, V7, V8, V9],
-    [CS, DY, TY, OB, SQ, V0, V1, V2, V3, V4, V5, V6, V7, V8, V9],
-    [CS, DY, KI, NU, CO, DY, DY, 0, 0, 0, 0, 0, 0, 0, 0],
-    [CS, DY, KI, NU, CO, DY, DY, 0, 0, 0, 0, 0, 0, 0, 0],
-    [CS, DY, OB, PT, V1, V2, V3, V9, NU, NU, NU, 0, 0, 0, 0],
-];
+// The forms of the fields after each row's letter, each row by itself: a table of all would be made anew at each use.
+// What stands after the last field is never read.
+const FORMS_T: [u8; FIELDS] = [CS, DY, TY, OB, PR, DY, DY, 0, 0, 0, 0, 0, 0, 0, 0];
+
+const FORMS_E: [u8; FIELDS] = [CS, DY, TY, OB, DY, 0, 0, 0, 0, 0, 0, 0, 0, 0, 0];
+
+const FORMS_R: [u8; FIELDS] = [CS, DY, TY, OB, SQ, SG, CR, DY, DY, 0, 0, 0, 0, 0, 0];
+
+const FORMS_O: [u8; FIELDS] = [CS, DY, TY, OB, SQ, SQ, 0, 0, 0, 0, 0, 0, 0, 0, 0];
+
+const FORMS_D: [u8; FIELDS] = [CS, DY, TY, OB, SQ, 0, 0, 0, 0, 0, 0, 0, 0, 0, 0];
+
+const FORMS_M: [u8; FIELDS] = [CS, DY, TY, OB, SQ, V0, V1, V2, V3, V4, V5, V6, V7, V8, V9];
+
+const FORMS_N: [u8; FIELDS] = [CS, DY, TY, OB, SQ, V0, V1, V2, V3, V4, V5, V6, V7, V8, V9];
+
+const FORMS_A: [u8; FIELDS] = [CS, DY, KI, NU, CO, DY, DY, 0, 0, 0, 0, 0, 0, 0, 0];
+
+const FORMS_Z: [u8; FIELDS] = [CS, DY, KI, NU, CO, DY, DY, 0, 0, 0, 0, 0, 0, 0, 0];
+
+const FORMS_Q: [u8; FIELDS] = [CS, DY, OB, PT, V1, V2, V3, V9, NU, NU, NU, 0, 0, 0, 0];
 
 // The index of a row; past the end Q's.
 fn row(shape: u8) -> usize
@@ -142,8 +150,19 @@ pub fn form_count(shape: u8) -> usize
 pub fn form_number(shape: u8, k: usize) -> u8
     ensures { λ r. ⌜ formAt r ≡ getD (formsAt shape) k csdForm ⌝ }
 {
-    if k < FIELDS {
-        return FORMS[row(shape)][k];
+    if k >= FIELDS {
+        return CS;
     }
-    CS
+    match shape {
+        SHAPE_T => FORMS_T[k],
+        SHAPE_E => FORMS_E[k],
+        SHAPE_R => FORMS_R[k],
+        SHAPE_O => FORMS_O[k],
+        SHAPE_D => FORMS_D[k],
+        SHAPE_M => FORMS_M[k],
+        SHAPE_N => FORMS_N[k],
+        SHAPE_A => FORMS_A[k],
+        SHAPE_Z => FORMS_Z[k],
+        _ => FORMS_Q[k],
+    }
 }
