@@ -1,2 +1,4 @@
 pub mod Alone
+pub mod Runs
+pub mod Tries
 pub mod Submits

@@ -1,3 +1,4 @@
 pub mod Promise
 pub mod Alone
+pub mod Tries
 pub mod Taking
