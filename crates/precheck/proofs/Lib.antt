@@ -1,4 +1,3 @@
 pub mod Alone
 pub mod Runs
 pub mod Tries
-pub mod Submits

@@ -26,7 +26,7 @@ use Rattle.book.proofs.Lists.{book-same, list-same}
 use Rattle.book.proofs.SameBooks.{same-books, same-then}
 use Rattle.precheck.specs.Promise.{Submitted, answerIn, loneAfter, leftAsFound}
 use Rattle.precheck.specs.Alone.{Run, done, sent, bookLeft, SomeRun, OneAnswer, NobodysLine}
-use Rattle.precheck.proofs.Submits.{keeps-promise, untaken-kept}
+use Rattle.answering.proofs.Submits.{keeps-promise, untaken-kept}
 use Rattle.precheck.proofs.Alone.{named-after, other-after}
 
 -- ---- there is a run
@@ -79,7 +79,7 @@ named-none line e c low high =
 
 -- ---- the answers are fixed
 
-pub same-back : (m n : M.Book) → SameBook m n → SameBook n m
+same-back : (m n : M.Book) → SameBook m n → SameBook n m
 same-back m n s = book-same n m (λ k p. sym (list-same m n s k p))
 
 -- two books with the same records of every depository

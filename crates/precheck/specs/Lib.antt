@@ -1,4 +1,3 @@
 pub mod Promise
 pub mod Alone
 pub mod Tries
-pub mod Taking
