@@ -49,8 +49,10 @@ pub nobodys-line : NobodysLine
 unfolding answerIn
 nobodys-line line h =
     let u = nobody-refused line h in
-    let said : (b b′ : List ℕ) (x : Answer) → Submitted b line x b′ → x ≡ cond (sound b) (Refused (u .refusal)) (Refused 1) =
-    λ b b′ x t. t .answered ∙ ap (λ z. cond (sound b) (z .answer) (Refused 1)) (u .everywhere (loneBook (depository line) b)) in
+    let said : (b b′ : List ℕ) (x : Answer) → Submitted b line x b′
+    → x ≡ cond (sound b) (Refused (u .refusal)) (Refused 1) =
+    λ b b′ x t.
+    t .answered ∙ ap (λ z. cond (sound b) (z .answer) (Refused 1)) (u .everywhere (loneBook (depository line) b)) in
     record {
       refusal = u .refusal;
       low = u .low;
@@ -112,9 +114,9 @@ module _ (b b′ : List ℕ) (s : sound b ≡ true) (s′ : sound b′ ≡ true)
 sound-alike : {b b′ : List ℕ} {lines : List (List ℕ)} {as′ bs′ : List Answer} → Run b lines as′ → Run b′ lines bs′
     → sound b ≡ true → sound b′ ≡ true → Alike b b′ → as′ ≡ bs′
 sound-alike done done s s′ h = refl
-sound-alike (sent {book = b} {next = n} {line = line} {answer = x} t r) (sent {book = b′} {next = n′} {answer = x′} t′ r′) s s′ h =
-    ap₂ _∷_ (t .answered ∙ answer-alike b b′ s s′ h line ∙ sym (t′ .answered))
-    (sound-alike r r′ (t .stays s) (t′ .stays s′) (next-alike b b′ s s′ h line n n′ x x′ t t′))
+sound-alike (sent {line = line} t r) (sent t′ r′) s s′ h =
+    ap₂ _∷_ (t .answered ∙ answer-alike _ _ s s′ h line ∙ sym (t′ .answered))
+    (sound-alike r r′ (t .stays s) (t′ .stays s′) (next-alike _ _ s s′ h line _ _ _ _ t t′))
 
 -- over a book that isn't sound every answer is refusal 1
 unsound-refused : {b : List ℕ} {lines : List (List ℕ)} {as′ : List Answer} → Run b lines as′ → sound b ≡ false

@@ -36,12 +36,13 @@ use Rattle.precheck.proofs.Runs.{some-run}
 some-left : (lines : List (List ℕ)) → SomeLeft lines
 some-left lines =
     let r = some-run (zeros bookSize) lines in
+    let size = length-zeros bookSize in
     record {
       book = bookLeft (r .run);
       leftBy = record {
         lent = zeros bookSize;
         start = zeros bookSize;
-        emptied = emptied-yes (zeros bookSize) (zeros bookSize) (length-zeros bookSize) (ap zeros (sym (length-zeros bookSize)));
+        emptied = emptied-yes (zeros bookSize) (zeros bookSize) size (ap zeros (sym size));
         answers = r .answers;
         run = r .run;
         left = refl;
@@ -100,12 +101,14 @@ module _ (lines : List (List ℕ)) (b : List ℕ) (l : LeftBy lines b) where
       book-held : names a line ≡ true → SameBook (loneBook a b′) (step m line .book)
       book-held e =
           same-then (loneBook a b′) (step (loneBook a b) line .book) (step m line .book)
-          (named-after a low high b b′ line e (t .records held-sound a low high)) (step-same (loneBook a b) m held line .book)
+          (named-after a low high b b′ line e (t .records held-sound a low high))
+          (step-same (loneBook a b) m held line .book)
 
       -- any other line leaves its records
       other-held : names a line ≡ false → SameBook (loneBook a b′) m
       other-held e =
-          same-then (loneBook a b′) (loneBook a b) m (other-after a low high b b′ line e (t .records held-sound a low high)) held
+          same-then (loneBook a b′) (loneBook a b) m
+          (other-after a low high b b′ line e (t .records held-sound a low high)) held
 
 -- ---- an answer, by the lone book after the lines that name the depository
 
@@ -127,13 +130,15 @@ types-held : (m n : M.Book) → SameBook m n → length (m .types) ≡ length (n
 types-held m n h = same-length (m .types) (n .types) (h .types)
 
 -- the emptied book holds no type, the book after the line one
-stores-nothing : (b b′ : List ℕ) → LeftBy [] b → SameBook (loneBook 2 b′) (loneBook 2 b) → Submitted b typeLine Taken b′ → ⊥
+stores-nothing : (b b′ : List ℕ) → LeftBy [] b → SameBook (loneBook 2 b′) (loneBook 2 b)
+    → Submitted b typeLine Taken b′ → ⊥
 unfolding names keep after step
 stores-nothing b b′ l h t =
     let one : length (typesOf 2 b′) ≡ 1 =
     types-held (loneBook 2 b′) (step M.empty typeLine .book)
     (book-held [] b l 2 (omega arith) (omega arith) typeLine b′ Taken t refl) in
-    let none : length (typesOf 2 b) ≡ 0 = types-held (loneBook 2 b) M.empty (held [] b l 2 (omega arith) (omega arith)) in
+    let none : length (typesOf 2 b) ≡ 0 =
+    types-held (loneBook 2 b) M.empty (held [] b l 2 (omega arith) (omega arith)) in
     omega (arith, one, none, types-held (loneBook 2 b′) (loneBook 2 b) h)
 
 -- a neighbour's type stays

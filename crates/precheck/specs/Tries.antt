@@ -1,5 +1,5 @@
--- 'What a reviewer will try' (document 01): for each of these pre-checks a book and a line are named at which its answer,
--- or what it leaves, breaks the promise of `submit`. Stated here, proved in proofs/Tries. Assumes nothing.
+-- 'What a reviewer will try' (document 01): for each of these pre-checks a book and a line are named at which its
+-- answer, or what it leaves, breaks the promise of `submit`. Stated here, proved in proofs/Tries. Assumes nothing.
 use Prim.Native.Nat.{ℕ, zero, suc}
 use mathlib.Core.Path.{_≡_}
 use mathlib.Core.List.{List, [], _∷_, _++_}
