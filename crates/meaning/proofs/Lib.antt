@@ -17,3 +17,5 @@ pub mod KeptPeriods
 pub mod Kept
 pub mod Names
 pub mod Numerals
+pub mod Nobody
+pub mod Exactly

@@ -20,17 +20,17 @@ use Rattle.precheck.specs.Alone.{Run, done, sent, answersTo, OneAlone, T
 
 module _ (a : ℕ) (low : 1 ≤ a) (high : a ≤ 8) where
   -- what the promise says where the line names a, and where it does not
-  shared-answer : (b line : List ℕ) → depository line ≡ a → sound b ≡ true
+  pub shared-answer : (b line : List ℕ) → depository line ≡ a → sound b ≡ true
       → answerIn b line ≡ step (loneBook a b) line .answer
   unfolding answerIn
   shared-answer b line d s = rw (s, d)
 
-  named-after : (b b′ line : List ℕ) → names a line ≡ true → SameBook (loneBook a b′) (loneAfter a b line)
+  pub named-after : (b b′ line : List ℕ) → names a line ≡ true → SameBook (loneBook a b′) (loneAfter a b line)
       → SameBook (loneBook a b′) (step (loneBook a b) line .book)
   unfolding loneAfter
   named-after b b′ line e h = rw e at h
 
-  other-after : (b b′ line : List ℕ) → names a line ≡ false → SameBook (loneBook a b′) (loneAfter a b line)
+  pub other-after : (b b′ line : List ℕ) → names a line ≡ false → SameBook (loneBook a b′) (loneAfter a b line)
       → SameBook (loneBook a b′) (loneBook a b)
   unfolding loneAfter
   other-after b b′ line e h = rw e at h

@@ -1,1 +1,3 @@
 pub mod Alone
+pub mod Runs
+pub mod Tries

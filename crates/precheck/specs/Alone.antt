@@ -7,8 +7,11 @@ use mathlib.Core.Bool.{cond}
 use mathlib.Core.List.{List, [], _∷_}
 use Rattle.tables.specs.Count.{keep}
 use Rattle.meaning.specs.Lone.{names, loneAnswers}
+use Rattle.meaning.specs.Nobody.{NamesNobody}
 use Rattle.meaning.specs.declared.Answer.{Answer}
+use Rattle.meaning.specs.declared.Answer.the-variants.{Refused}
 use Rattle.book.specs.Emptied.{Emptied}
+use Rattle.book.specs.Sound.{sound}
 use Rattle.precheck.specs.Promise.{Submitted}
 
 -- lines sent one by one to a book, and their answers: each step is exactly what `submit` promises. Lines are any bytes.
@@ -16,6 +19,37 @@ pub data Run : List ℕ → List (List ℕ) → List Answer → Type 0 where
   done : {book : List ℕ} → Run book [] []
   sent : {book next line : List ℕ} {answer : Answer} {lines : List (List ℕ)} {answers : List Answer}
       → Submitted book line answer next → Run next lines answers → Run book (line ∷ lines) (answer ∷ answers)
+
+-- the book after them
+unfoldable pub bookLeft : {book : List ℕ} {lines : List (List ℕ)} {answers : List Answer} → Run book lines answers → List ℕ
+bookLeft (done {book = book}) = book
+bookLeft (sent step run) = bookLeft run
+
+-- There is a run of every list of lines over every book, so that a claim about all runs of it speaks of one.
+pub record Ran (book : List ℕ) (lines : List (List ℕ)) : Type 0 where
+  pub answers : List Answer
+  pub run : Run book lines answers
+
+abbrev pub SomeRun : Type 0
+SomeRun = (book : List ℕ) (lines : List (List ℕ)) → Ran book lines
+
+-- Every answer of it is fixed, at lines that name nobody too: two runs of the same lines over one book answer alike.
+abbrev pub OneAnswer : Type 0
+OneAnswer =
+    (book : List ℕ) (lines : List (List ℕ)) (answers answers′ : List Answer)
+    → Run book lines answers → Run book lines answers′ → answers ≡ answers′
+
+-- A line that names nobody is refused 2 to 5 over every sound book, always alike; over any other 1. Every byte is left.
+pub record Nobodys (line : List ℕ) : Type 0 where
+  pub refusal : ℕ
+  pub low : 2 ≤ refusal
+  pub high : refusal ≤ 5
+  pub answered : (before after : List ℕ) (answer : Answer) → Submitted before line answer after
+      → answer ≡ cond (sound before) (Refused refusal) (Refused 1)
+  pub kept : (before after : List ℕ) (answer : Answer) → Submitted before line answer after → after ≡ before
+
+abbrev pub NobodysLine : Type 0
+NobodysLine = (line : List ℕ) → NamesNobody line → Nobodys line
 
 -- the answers at the lines that name depository a
 unfoldable pub answersTo : ℕ → List (List ℕ) → List Answer → List Answer
