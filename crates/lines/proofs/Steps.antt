@@ -13,7 +13,7 @@ use Rattle.meaning.specs.Desk.{linesOf, output}
 use Rattle.meaning.specs.declared.Answer.{Answer}
 use Rattle.precheck.specs.Alone.{done, sent, answersTo}
 use Rattle.precheck.proofs.Alone.{one-alone}
-use Rattle.precheck.proofs.Submits.{keeps-promise}
+use Rattle.answering.proofs.Submits.{keeps-promise}
 use Rattle.lines.specs.Many.{answerTo, bytesAfter, laid, writtenAs, Standing, room, one, many}
 use Rattle.lines.specs.Whole.{answersOf, bookAfter, joined, Submits, Came, Steps, DeskAlone}
 use Rattle.lines.proofs.WholeText.{whole}

@@ -14,7 +14,7 @@ use Rattle.tables.proofs.Lists.{has-cons}
 use Rattle.meaning.specs.Fields.{before, wellMade}
 use Rattle.meaning.specs.Reading.{numbersRead}
 use Rattle.meaning.specs.Desk.{linesOf}
-use Rattle.precheck.specs.Taking.{answerBy, bytesBy}
+use Rattle.answering.specs.Taking.{answerBy, bytesBy}
 use Rattle.lines.specs.Ended.{inFront, ended, begun, short}
 use Rattle.lines.specs.Many.{answerTo, bytesAfter}
 use Rattle.lines.specs.Whole.{answersOf, bookAfter, linesIn, joined, Whole}

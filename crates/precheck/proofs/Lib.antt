@@ -1,2 +1,1 @@
 pub mod Alone
-pub mod Submits

@@ -19,7 +19,7 @@ use Rattle.edits.specs.Edit.{editIn}
 use Rattle.judge.specs.Stages.{judgedBy}
 use Rattle.line.specs.Line.{lineOf}
 use Rattle.line.specs.declared.reading.Line.{Line}
-use Rattle.precheck.specs.Promise.{Submitted}
+use Rattle.answering.specs.Promise.{Submitted}
 
 -- ---- a command
 

@@ -1,4 +1,4 @@
--- What each return of `take`, `answer` and `submit` shows.
+-- What each return of `take` and `answer` shows, and the promise of `submit` from it.
 use Prim.Native.Nat.{ℕ, zero, suc, _%_, _≤_}
 use mathlib.Core.Path.{_≡_, refl, ap, sym, _∙_}
 use mathlib.Core.Bool.{Bool, true, false, not, or-true, false≢true}
@@ -38,8 +38,8 @@ use Rattle.judge.proofs.VerdictRight.{judged-right}
 use Rattle.line.specs.declared.reading.Line.{Line}
 use Rattle.line.specs.Line.{lineOf}
 use Rattle.line.proofs.LineCallers as Read
-use Rattle.precheck.specs.Promise.{answerIn, loneAfter, leftAsFound, Submitted}
-use Rattle.precheck.specs.Taking.{refusalOf, repliedTo, replyTo, answerOf, bytesAfter, Took, commandIn, answerRead, bytesRead, answerBy, bytesBy, Answers}
+use Rattle.answering.specs.Promise.{answerIn, loneAfter, leftAsFound, Submitted}
+use Rattle.answering.specs.Taking.{refusalOf, repliedTo, replyTo, answerOf, bytesAfter, Took, commandIn, answerRead, bytesRead, answerBy, bytesBy, Answers}
 
 -- ---- the returns of take
 
@@ -298,14 +298,11 @@ module _ (b line : List ℕ) (t : Bool) (x : Answer) where
                 (rw (same-command line l a) at k);
           }
 
--- ---- the return of submit
+-- ---- the promise of submit
 
 module _ (b b′ line : List ℕ) (t : Bool) (x : Answer) where
   pub submits : Answers t b line x b′ → t ≡ sound b → Submitted b line x b′
   submits a e = a .promise e
-
-  pub exactly : Answers t b line x b′ → t ≡ sound b → Answers (sound b) b line x b′
-  exactly a e = rw (← e) a
 
 -- ---- what is answered to any line over any bytes keeps the promise
 

@@ -1,9 +1,9 @@
--- `precheck::take` meets its contract. Assumes nothing.
-use Rattle.precheck.proofs.Submits.{took-refusal, took-question, took-edit}
+-- `answering::take` meets its contract. Assumes nothing.
+use Rattle.answering.proofs.Submits.{took-refusal, took-question, took-edit}
 use Rattle.commands.proofs.Narrow.{not-asked}
 use borrow.Author.Needs.{needs}
-use Rattle.precheck.proofs.take.Statement.{statement}
-use Rattle.precheck.proofs.take.Tie as tie
+use Rattle.answering.proofs.take.Statement.{statement}
+use Rattle.answering.proofs.take.Tie as tie
 
 pub take-spec : {M : Type 1} → statement M
 take-spec =

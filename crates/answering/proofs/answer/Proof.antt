@@ -1,8 +1,8 @@
--- `precheck::answer` meets its contract. Assumes nothing.
-use Rattle.precheck.proofs.Submits.{answers-unsound, answers-unread, answers-wrong, answers-read}
+-- `answering::answer` meets its contract. Assumes nothing.
+use Rattle.answering.proofs.Submits.{answers-unsound, answers-unread, answers-wrong, answers-read}
 use borrow.Author.Needs.{needs}
-use Rattle.precheck.proofs.answer.Statement.{statement}
-use Rattle.precheck.proofs.answer.Tie as tie
+use Rattle.answering.proofs.answer.Statement.{statement}
+use Rattle.answering.proofs.answer.Tie as tie
 
 pub answer-spec : {M : Type 1} → statement M
 answer-spec =
