@@ -17,3 +17,7 @@ pub mod KeptPeriods
 pub mod Kept
 pub mod Names
 pub mod Numerals
+pub mod ExerciseJudged
+pub mod ExerciseLines
+pub mod ExerciseOutIn
+pub mod ExerciseWays

@@ -14,3 +14,4 @@ pub mod Desk
 pub mod Writing
 pub mod Keler
 pub mod SameBook
+pub mod Exercise
