@@ -83,7 +83,7 @@ rows-in (w ∷ rows) b c (f, e, a) =
 -- ---- the rule
 
 -- what is the same rule is that rule
-same-rule : (r x : Rule) → sameRule r x ≡ true → r ≡ x
+pub same-rule : (r x : Rule) → sameRule r x ≡ true → r ≡ x
 unfolding sameRule
 same-rule r x e =
     let k = rule-key (r .type) (r .object) (r .sequence) x (search ands) in

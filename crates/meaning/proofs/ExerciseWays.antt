@@ -36,7 +36,7 @@ from-one : (n : ℕ) → holds sequenceForm n ≡ true → 1 ≤ n
 unfolding holds
 from-one n e = leb-true 1 n (search ands)
 
-rule-from-one : (r : Rule) → ruleFits r ≡ true → 1 ≤ r .sequence
+pub rule-from-one : (r : Rule) → ruleFits r ≡ true → 1 ≤ r .sequence
 unfolding ruleFits
 rule-from-one r e = from-one (r .sequence) (search ands)
 

@@ -21,3 +21,5 @@ pub mod ExerciseJudged
 pub mod ExerciseLines
 pub mod ExerciseOutIn
 pub mod ExerciseWays
+pub mod ExerciseVerdict
+pub mod ExerciseMoved

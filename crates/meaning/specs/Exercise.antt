@@ -93,17 +93,18 @@ pub record Moves (b : Book) (r : Rule) (new : ℕ) (lines : List (List ℕ)) : T
   pub held : has (sameRule r) (b .rules) ≡ true
   pub way : Way b r new lines
 
--- a type and its deciding rule, with the type's sequence by f instead; nothing where nothing decides
-abbrev pub resequence : (ℕ → ℕ) → Deciding → Deciding
-resequence f d = cond (eqb (d .number) 0) nobody (by (d .number) (f (d .number)))
+-- the type, if any, with its sequence by f
+abbrev pub sequenced : (ℕ → ℕ) → ℕ → Deciding
+sequenced f zero = nobody
+sequenced f (suc type) = by (suc type) (f (suc type))
 
--- the verdict with the sequences by f: whether it is rejected, which holds are on and which types are named stay
+-- the verdict with the sequences by f: whether it is rejected, and the types that are named, stay
 unfoldable pub resequenced : (ℕ → ℕ) → Verdict → Verdict
 resequenced f v = record {
   rejected = v .rejected;
-  rejection = resequence f (v .rejection);
-  validation = resequence f (v .validation);
-  party = resequence f (v .party);
+  rejection = sequenced f (v .rejection .number);
+  validation = sequenced f (v .validation .number);
+  party = sequenced f (v .party .number);
 }
 
 module _ (b : Book) (q : Question) (r : Rule) (new : ℕ) where

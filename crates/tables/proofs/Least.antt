@@ -6,10 +6,10 @@ use mathlib.Core.Bool.{Bool, true, false, _&&_, not, cond, false≢true}
 use mathlib.Core.List.{List, [], _∷_}
 use native.Mathlib.Omega.{arith}
 use lib.Dec.{eqb, ltb, leb}
-use borrow.Author.Tests.{eqb-true, eq-eqb, leb-true, le-leb, leb-false, ltb-true, lt-ltb, lt-leb, not-true}
+use borrow.Author.Tests.{eqb-true, eq-eqb, leb-true, le-leb, leb-false, ltb-true, lt-ltb, lt-leb, not-true, ltb-false}
 use Rattle.tables.specs.Count.{bit, lesser, count, has, every, alter, least}
-use Rattle.tables.proofs.Counts.{cases, both, count-ext, count-alter}
-use Rattle.tables.proofs.Lists.{low, low-least, has-true, has-false, true-has, every-none, every-both, every-map, count-under}
+use Rattle.tables.proofs.Counts.{cases, cases-eq, both, ands, count-ext, count-alter}
+use Rattle.tables.proofs.Lists.{low, low-least, has-true, has-false, true-has, every-none, every-both, every-map, every-any, some-of, count-under}
 
 -- what low says
 pub low-true : (k n : ℕ) → low k n ≡ true → (1 ≤ n) × (n ≤ k)
@@ -31,6 +31,16 @@ low-below : (n : ℕ) → low (n - 1) n ≡ false
 unfolding low
 low-below zero = refl
 low-below (suc n) = low-false (suc n - 1) (suc n) (omega arith)
+
+-- what passes is not below the least
+no-less : (m n : ℕ) (t : Bool) → not (t && low (m - 1) n) ≡ true → t ≡ true → 1 ≤ n → m ≤ n
+no-less m n t e u j =
+    cases (leb m n)
+    (λ z. leb-true m n z)
+    (λ z.
+    absurd
+    (false≢true
+    (sym (not-true (t && low (m - 1) n) e) ∙ rw (u, true-low (m - 1) n j (omega (arith, leb-false m n z))))))
 
 module _ {R : Type 0} where
   -- among records that each pass r, what follows from p is had where p is
@@ -90,16 +100,96 @@ module _ {R : Type 0} where
     least-reached h =
         has-under _ (λ x. p x && low (least f p l) (f x)) _ l least-first
         (sym (low-least (least f p l) f p l) ∙ true-low (least f p l) (least f p l) h (omega arith))
-        (λ x n t. let b = both (p x) (low (least f p l) (f x)) t in rw (b .0, at-least x (b .0) (b .1) n))
-      where
-        at-least : (x : R) → p x ≡ true → low (least f p l) (f x) ≡ true
-            → not (p x && low (least f p l - 1) (f x)) ≡ true → eqb (f x) (least f p l) ≡ true
-        at-least x t i n =
-            let r = low-true (least f p l) (f x) i in
-            cases (leb (f x) (least f p l - 1))
-            (λ z.
-            absurd
-            (false≢true
-            (sym (not-true (p x && low (least f p l - 1) (f x)) n)
-            ∙ rw (t, true-low (least f p l - 1) (f x) (r .0) (leb-true (f x) (least f p l - 1) z)))))
-            (λ z. eq-eqb (f x) (least f p l) (omega (arith, leb-false (f x) (least f p l - 1) z)))
+        (λ x n t.
+        let b = both (p x) (low (least f p l) (f x)) t in
+        let r = low-true (least f p l) (f x) (b .1) in
+        rw (b .0, eq-eqb (f x) (least f p l) (omega (arith, r .1, no-less (least f p l) (f x) (p x) n (b .0) (r .0)))))
+
+  -- Two numberings that differ only at the records that pass k, which are a by the one and c by the other.
+  module _ (f g : R → ℕ) (k : R → Bool) (a c : ℕ) (one : (x : R) → k x ≡ true → f x ≡ a)
+      (two : (x : R) → k x ≡ true → g x ≡ c) (else : (x : R) → k x ≡ false → f x ≡ g x) (p : R → Bool) (l : List R) where
+    -- a least that is not a is reached by a record that does not differ
+    least-kept : (least f p l ≡ a → ⊥) → 1 ≤ least f p l → (1 ≤ least g p l) × (least g p l ≤ least f p l)
+    least-kept n h =
+        least-most g p l (least f p l)
+        (has-under _ (λ x. p x && eqb (f x) (least f p l)) _ l (every-any l) (least-reached f p l h)
+        (λ x u t.
+        let b = both (p x) (eqb (f x) (least f p l)) t in
+        let e = eqb-true (f x) (least f p l) (b .1) in
+        cases (k x)
+        (λ z. absurd (n (sym e ∙ one x z)))
+        (λ z. rw (b .0) (true-low (least f p l) (g x) (omega (arith, else x z)) (omega (arith, else x z))))))
+
+    -- where it was a, and some stand between a and c, it is the least of those by the other
+    module _ (r : R → Bool) (e : every r l ≡ true) (i : 1 ≤ a) (w : least f p l ≡ a)
+        (only : (x : R) → r x ≡ true → p x ≡ true → f x ≡ a → k x ≡ true) where
+      abbrev among : R → Bool
+      among x = p x && ltb a (f x) && ltb (f x) c
+
+      among-parts : (x : R) → among x ≡ true → (p x ≡ true) × (a < f x) × (f x < c)
+      among-parts x t = (search ands, ltb-true a (f x) (search ands), ltb-true (f x) c (search ands))
+
+      -- it is between them
+      among-range : has among l ≡ true → (1 ≤ least f among l) × (least f among l ≤ c)
+      among-range h =
+          least-most f among l c
+          (has-under _ among _ l (every-any l) h
+          (λ x u t. let b = among-parts x t in rw (t, true-low c (f x) (omega (arith, b .1)) (omega (arith, b .2)))))
+
+      -- one of those is at most that by the other too
+      among-most : 1 ≤ least f among l → (1 ≤ least g p l) × (least g p l ≤ least f among l)
+      among-most h =
+          least-most g p l (least f among l)
+          (has-under _ (λ x. among x && eqb (f x) (least f among l)) _ l (every-any l) (least-reached f among l h)
+          (λ x u t.
+          let d = both (among x) (eqb (f x) (least f among l)) t in
+          let b = among-parts x (d .0) in
+          let z = eqb-true (f x) (least f among l) (d .1) in
+          let n : k x ≡ false = cases (k x) (λ y. absurd (omega (arith, one x y, b .1))) (λ y. y) in
+          rw (b .0) (true-low (least f among l) (g x) (omega (arith, else x n, z)) (omega (arith, else x n, z)))))
+
+      -- and none is less: what stands at or before a differs, and what stands behind c is no less than c
+      among-least : has among l ≡ true → (x : R) → r x ≡ true → not (p x && low (least f p l - 1) (f x)) ≡ true
+          → not (among x && low (least f among l - 1) (f x)) ≡ true → p x ≡ true → 1 ≤ g x → least f among l ≤ g x
+      among-least h x u n m t j =
+          cases (k x)
+          (λ z. omega (arith, two x z, among-range h .1))
+          (λ z.
+          let q = else x z in
+          let b = no-less (least f p l) (f x) (p x) n t (omega (arith, q)) in
+          cases-eq (f x) a
+          (λ y. absurd (false≢true (sym z ∙ only x u t y)))
+          (λ y.
+          cases (ltb (f x) c)
+          (λ v.
+          let y′ : among x ≡ true = rw (t, lt-ltb a (f x) (omega arith), v) in
+          omega (arith, q, no-less (least f among l) (f x) (among x) m y′ (omega (arith, q))))
+          (λ v. omega (arith, q, ltb-false (f x) c v, among-range h .1))))
+
+      pub least-among : has among l ≡ true → least g p l ≡ least f among l
+      least-among h =
+          let m = among-most (among-range h .0) in
+          let n : least f among l ≤ least g p l =
+          some-of (λ x. r x && (not (p x && low (least f p l - 1) (f x)) && not (among x && low (least f among l - 1) (f x))))
+          (λ x. p x && eqb (g x) (least g p l)) l
+          (every-both _ _ l e (every-both _ _ l (least-first f p l) (least-first f among l)))
+          (has-true _ l (least-reached g p l (m .0)))
+          (λ x u t.
+          let d = both (p x) (eqb (g x) (least g p l)) t in
+          let z = eqb-true (g x) (least g p l) (d .1) in
+          omega (arith, z, m .0, among-least h x (search ands) (search ands) (search ands) (d .0) (omega (arith, z, m .0)))) in
+          omega (arith, m .1, n)
+
+  -- neither is the differing record: both are reached by one that does not differ
+  pub least-apart : (f g : R → ℕ) (k : R → Bool) (a c : ℕ) → ((x : R) → k x ≡ true → f x ≡ a)
+      → ((x : R) → k x ≡ true → g x ≡ c) → ((x : R) → k x ≡ false → f x ≡ g x) → (p : R → Bool) (l : List R)
+      → (least f p l ≡ a → ⊥) → (least g p l ≡ c → ⊥) → least g p l ≡ least f p l
+  least-apart f g k a c one two else p l n m =
+      let to = least-kept f g k a c one two else p l n in
+      let back = least-kept g f k c a two one (λ x z. sym (else x z)) p l m in
+      cases (leb 1 (least f p l))
+      (λ z. let t = to (leb-true 1 (least f p l) z) in omega (arith, t .0, t .1, back (t .0) .1))
+      (λ z.
+      cases (leb 1 (least g p l))
+      (λ y. absurd (omega (arith, leb-false 1 (least f p l) z, back (leb-true 1 (least g p l) y) .0)))
+      (λ y. omega (arith, leb-false 1 (least f p l) z, leb-false 1 (least g p l) y)))
