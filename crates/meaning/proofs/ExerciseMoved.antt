@@ -59,7 +59,7 @@ module _ (b : Book) (q : Question) (type sign : ℕ) (x : Rule) (e : ruleApplies
   unfolding ruleApplies
   applied-sign = eqb-true (x .sign) sign (search ands)
 
-  applied-matches : matches b q x ≡ true
+  pub applied-matches : matches b q x ≡ true
   unfolding ruleApplies
   applied-matches = search ands
 
@@ -128,6 +128,104 @@ module _ {b : Book} {r : Rule} {new : ℕ} {c : Book} (m : Shifted b r new c) wh
         least-apart (λ x. x .sequence) (placed b q r new) its (r .sequence) new at-old at-new at-same
         (ruleApplies b q (r .type) positive) (b .rules)
 
+    -- the answer before names it: its sequence is the least
+    decided-before : decides b q r ≡ true → (q .object ≡ r .object) × (deciding b q (r .type) ≡ r .sequence)
+    unfolding decides
+    decided-before e =
+        let d = both (eqb (q .object) (r .object)) (namesRule (r .type) (r .sequence) (judged b q)) e in (
+          eqb-true (q .object) (r .object) (d .0),
+          named-by (r .type) (type-from-one r held-fits) (deciding b q) (r .sequence) (judged b q)
+              (ap (namesRule (r .type) (r .sequence)) (sym (judged-own b q)) ∙ d .1),
+        )
+
+    -- what the answer after names by its type is the least with the moved rule at its new place
+    decided-after : (k : ℕ) → namesRule (r .type) k (judged c q) ≡ true → decidingMoved b q r new (r .type) ≡ k
+    decided-after k e =
+        named-by (r .type) (type-from-one r held-fits) (decidingMoved b q r new) k (judged b q)
+        (ap (namesRule (r .type) k) (sym elsewhere) ∙ e)
+
+    -- no rule of its type has the old sequence then
+    not-old : q .object ≡ r .object → decidingMoved b q r new (r .type) ≡ r .sequence → ⊥
+    unfolding decidingMoved
+    not-old o e =
+        some-of _ _ (b .rules) (every-any (b .rules))
+        (has-true _ (b .rules)
+        (least-reached (placed b q r new) (ruleApplies b q (r .type) positive) (b .rules)
+        (omega (arith, e, rule-from-one r held-fits))))
+        (λ x u t.
+        let d = both (ruleApplies b q (r .type) positive x) _ t in
+        let z = eqb-true (placed b q r new x) _ (d .1) ∙ e in
+        cases (its x)
+        (λ y. m .apart (sym (at-new x y) ∙ z))
+        (λ y.
+        false≢true
+        (sym y
+        ∙ is-rule (r .type) (r .object) (r .sequence) x (sym (applied-type b q (r .type) positive x (d .0)))
+        (sym o ∙ sym (applied-object b q (r .type) positive x (d .0))) (sym (at-same x y ∙ z)))))
+
+    -- and none had the new one before
+    not-new : q .object ≡ r .object → deciding b q (r .type) ≡ new → ⊥
+    unfolding deciding
+    not-new o e =
+        false≢true
+        (sym (m .free)
+        ∙ has-map _ (isRule (r .type) (r .object) new) (b .rules)
+        (least-reached (λ x. x .sequence) (ruleApplies b q (r .type) positive) (b .rules) (omega (arith, e, m .some-place)))
+        (λ x t.
+        let d = both (ruleApplies b q (r .type) positive x) _ t in
+        is-rule (r .type) (r .object) new x (sym (applied-type b q (r .type) positive x (d .0)))
+        (sym o ∙ sym (applied-object b q (r .type) positive x (d .0))) (sym (eqb-true (x .sequence) _ (d .1) ∙ e))))
+
+    stays : (decides b q r || decides c q (ruleMoved new r)) ≡ false → judged c q ≡ judged b q
+    unfolding decides
+    stays e =
+        let on = eqb (q .object) (r .object) in
+        let d = neither (decides b q r) (decides c q (ruleMoved new r)) e in
+        elsewhere
+        ∙ all-stay (deciding b q) (decidingMoved b q r new) (r .type) (r .sequence) new on other apart (judged b q)
+        (ap (λ v. on && namesRule (r .type) (r .sequence) v) (sym (judged-own b q)) ∙ d .0)
+        (ap (λ v. on && namesRule (r .type) new v) (sym elsewhere) ∙ d .1)
+        ∙ sym (judged-own b q)
+
+    old-changes : judged c q ≡ judged b q → decides b q r ≡ true → ⊥
+    unfolding decides
+    old-changes z t =
+        not-old (decided-before t .0)
+        (decided-after (r .sequence)
+        (ap (namesRule (r .type) (r .sequence)) z ∙ both (eqb (q .object) (r .object)) (namesRule (r .type) (r .sequence) (judged b q)) t .1))
+
+    new-changes : judged c q ≡ judged b q → decides c q (ruleMoved new r) ≡ true → ⊥
+    unfolding decides
+    new-changes z t =
+        let d = both (eqb (q .object) (r .object)) (namesRule (r .type) new (judged c q)) t in
+        not-new (eqb-true (q .object) (r .object) (d .0))
+        (named-by (r .type) (type-from-one r held-fits) (deciding b q) new (judged b q)
+        (ap (namesRule (r .type) new) (sym (judged-own b q)) ∙ ap (namesRule (r .type) new) (sym z) ∙ d .1))
+
+    changes : judged c q ≡ judged b q → (decides b q r || decides c q (ruleMoved new r)) ≡ false
+    changes z =
+        rw (
+          not-so (decides b q r) false refl (λ t. absurd (old-changes z t)),
+          not-so (decides c q (ruleMoved new r)) false refl (λ t. absurd (new-changes z t)),
+        )
+
+    behind : decides b q r ≡ true → has (between b q r new) (b .rules) ≡ true
+        → namesRule (r .type) (least (λ x. x .sequence) (between b q r new) (b .rules)) (judged c q) ≡ true
+    unfolding decides between decidingMoved deciding
+    behind t h =
+        let d = decided-before t in
+        let z : decidingMoved b q r new (r .type) ≡ least (λ x. x .sequence) (between b q r new) (b .rules) =
+        least-among (λ x. x .sequence) (placed b q r new) its (r .sequence) new at-old at-new at-same
+        (ruleApplies b q (r .type) positive) (b .rules) (λ x. true) (every-any (b .rules)) (rule-from-one r held-fits) (d .1)
+        (λ x u p y.
+        is-rule (r .type) (r .object) (r .sequence) x (sym (applied-type b q (r .type) positive x p))
+        (sym (d .0) ∙ sym (applied-object b q (r .type) positive x p)) (sym y))
+        h in
+        ap (λ k. namesRule (r .type) k (judged c q)) (sym z)
+        ∙ ap (namesRule (r .type) (decidingMoved b q r new (r .type))) elsewhere
+        ∙ named-again (r .type) (type-from-one r held-fits) (deciding b q) (decidingMoved b q r new) (r .sequence) (judged b q)
+        (ap (namesRule (r .type) (r .sequence)) (sym (judged-own b q)) ∙ both (eqb (q .object) (r .object)) _ t .1)
+
 -- ---- the statements
 
 pub put-elsewhere : PutElsewhere
@@ -148,7 +246,7 @@ negative-moved b r new lines m n q =
     omega arith)))
 
 -- a rule that matches has a row
-has-row : (b : Book) (q : Question) (n o s : ℕ) (x : Rule) → isRule n o s x ≡ true → matches b q x ≡ true
+pub has-row : (b : Book) (q : Question) (n o s : ℕ) (x : Rule) → isRule n o s x ≡ true → matches b q x ≡ true
     → has (ofRule n o s) (b .rows) ≡ true
 unfolding matches
 has-row b q n o s x t e =
@@ -161,3 +259,9 @@ rowless-moved b r new lines m none q =
     (λ type x u p.
     not-so (isRule (r .type) (r .object) (r .sequence) x) _ none
     (λ t. has-row b q (r .type) (r .object) (r .sequence) x t (applied-matches b q type positive x p)))
+
+pub elsewhere-changes : ElsewhereChanges
+elsewhere-changes b r new lines m q = (stays (shifted m) q, changes (shifted m) q)
+
+pub behind-another : BehindAnother
+behind-another b r new lines m q = behind (shifted m) q

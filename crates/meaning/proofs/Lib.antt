@@ -23,3 +23,4 @@ pub mod ExerciseOutIn
 pub mod ExerciseWays
 pub mod ExerciseVerdict
 pub mod ExerciseMoved
+pub mod ExerciseRowless

@@ -2,13 +2,13 @@
 -- and numbers of the list's records do not.
 use Prim.Native.Nat.{ℕ, zero, suc, _+_, _-_, _≤_, _<_}
 use mathlib.Core.Path.{_≡_, refl, ap, sym, _∙_}
-use mathlib.Core.Bool.{Bool, true, false, _&&_, not, cond, false≢true}
+use mathlib.Core.Bool.{Bool, true, false, _&&_, not, cond, and-false, false≢true}
 use mathlib.Core.List.{List, [], _∷_}
 use native.Mathlib.Omega.{arith}
 use lib.Dec.{eqb, ltb, leb}
 use borrow.Author.Tests.{eqb-true, eq-eqb, leb-true, le-leb, leb-false, ltb-true, lt-ltb, lt-leb, not-true, ltb-false}
-use Rattle.tables.specs.Count.{bit, lesser, count, has, every, alter, least}
-use Rattle.tables.proofs.Counts.{cases, cases-eq, both, ands, count-ext, count-alter}
+use Rattle.tables.specs.Count.{bit, lesser, count, has, every, keep, alter, least}
+use Rattle.tables.proofs.Counts.{cases, cases-eq, both, ands, count-ext, count-keep, count-alter}
 use Rattle.tables.proofs.Lists.{low, low-least, has-true, has-false, true-has, every-none, every-both, every-map, every-any, some-of, count-under}
 
 -- what low says
@@ -84,6 +84,21 @@ module _ {R : Type 0} where
       let t : cond (p x) (f x) 0 ≡ cond (q x) (g x) 0 =
       cases (p x) (λ z. rw (z, sym (h x (b .0)) ∙ z) (i x (b .0) z)) (λ z. rw (z, sym (h x (b .0)) ∙ z)) in
       rw (t, least-agree r f g p q l (b .1) h i)
+
+  -- what does not pass may be taken out
+  pub has-keep : (p q : R → Bool) (l : List R) → ((x : R) → p x ≡ true → q x ≡ true) → has p (keep q l) ≡ has p l
+  unfolding has
+  has-keep p q l h =
+      ap (ltb 0) (count-keep p q l ∙ count-ext _ _ l (λ x. cases (p x) (λ e. rw (h x e)) (λ e. rw e (and-false (q x)))))
+
+  pub least-keep : (f : R → ℕ) (p q : R → Bool) (l : List R) → ((x : R) → p x ≡ true → q x ≡ true)
+      → least f p (keep q l) ≡ least f p l
+  unfolding least keep
+  least-keep f p q [] h = refl
+  least-keep f p q (x ∷ l) h =
+      cases (p x)
+      (λ e. rw (h x e, least-keep f p q l h))
+      (λ e. cases (q x) (λ z. rw (z, least-keep f p q l h)) (λ z. rw (z, e, least-keep f p q l h)))
 
   module _ (f : R → ℕ) (p : R → Bool) (l : List R) where
     -- a record that passes is at least the least, which then is there
