@@ -1,4 +1,5 @@
 pub mod DeskExample
+pub mod Lesson
 pub mod Marked
 pub mod Edges
 pub mod Order
