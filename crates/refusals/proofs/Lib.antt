@@ -1,2 +1,2 @@
-pub mod InOrder
+pub mod First
 pub mod Refuse

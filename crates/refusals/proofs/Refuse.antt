@@ -23,7 +23,7 @@ use Rattle.commands.specs.declared.What.{What}
 use Rattle.commands.specs.declared.Command.{Command}
 use Rattle.book.specs.Lone.{typesOf, rulesOf, rowsOf, periodsOf, loneBook}
 use Rattle.refusals.specs.Earliest.{Earliest}
-use Rattle.refusals.proofs.InOrder.{earliest}
+use Rattle.refusals.proofs.First.{earliest}
 
 module _ (b : List ℕ) (c d x y z u : ℕ) where
   pub refused-add-type : (r : RestrictionType) (held full : Bool) → x ≡ cond (leb (r .first) d) 6 y → y ≡ cond held 8 z

@@ -1,21 +1,24 @@
 -- The earliest refusal whose condition holds (document 01, 'Refused lines': tested in order, 'the first that holds is
 -- the answer'), of any list of conditions, each with its number. Assumes nothing.
-use Prim.Native.Nat.{ℕ, _<_}
+use Prim.Native.Nat.{ℕ}
 use mathlib.Core.Path.{_≡_}
-use mathlib.Core.Bool.{Bool, true, false, _&&_}
-use mathlib.Core.List.{List}
-use lib.Dec.{eqb}
+use mathlib.Core.Bool.{Bool, true, false}
+use mathlib.Core.List.{List, _∷_, _++_}
 use Rattle.tables.specs.Count.{has}
 
--- whether a condition of that number holds
-unfoldable pub holdsOf : List (ℕ × Bool) → ℕ → Bool
+-- whether a condition of the list holds
+unfoldable pub someHolds : List (ℕ × Bool) → Bool
 unfolding has
-holdsOf cs n = has (λ c. eqb (c .0) n && c .1) cs
+someHolds cs = has (λ c. c .1) cs
 
+-- n is the number of a condition of the list that holds, and none before it does
+pub record FirstHolds (cs : List (ℕ × Bool)) (n : ℕ) : Type 0 where
+  pub before : List (ℕ × Bool)
+  pub after : List (ℕ × Bool)
+  pub all : cs ≡ before ++ (n, true) ∷ after
+  pub earlier : someHolds before ≡ false
+
+-- such a number, or 0 where no condition holds
 pub record Earliest (cs : List (ℕ × Bool)) (n : ℕ) : Type 0 where
-  -- 0 where none holds
-  pub none : n ≡ 0 → (m : ℕ) → holdsOf cs m ≡ false
-  -- else the number of one that holds
-  pub one : (n ≡ 0 → ⊥) → holdsOf cs n ≡ true
-  -- and none of a lower number does
-  pub first : (m : ℕ) → m < n → holdsOf cs m ≡ false
+  pub none : n ≡ 0 → someHolds cs ≡ false
+  pub one : (n ≡ 0 → ⊥) → FirstHolds cs n
