@@ -44,7 +44,9 @@ module _ {R : Type 0} where
         count-ext (λ y. equal x y && p y) (λ y. equal x y && p x) l (alike x p)
         ∙ cases (p x)
         (λ e. rw e (count-ext (λ y. equal x y && true) (equal x) l (λ y. cases (equal x y) (λ f. rw f) (λ f. rw f))))
-        (λ e. rw e (count-ext (λ y. equal x y && false) (λ y. false) l (λ y. cases (equal x y) (λ f. rw f) (λ f. rw f)) ∙ count-none l))
+        (λ e.
+        rw e
+        (count-ext (λ y. equal x y && false) (λ y. false) l (λ y. cases (equal x y) (λ f. rw f) (λ f. rw f)) ∙ count-none l))
 
     module _ (l m : List R) (h : EquallyOften equal l m) where
       own-often : (x : R) (p : R → Bool) → count (λ y. equal x y && p y) l ≡ count (λ y. equal x y && p y) m
@@ -70,7 +72,8 @@ module _ {R : Type 0} where
     shorter-same [] [] s h p = refl
     shorter-same [] (y ∷ m) s h p = absurd (omega (arith, h y, ap bit (decides .self y)))
     shorter-same (x ∷ l) m s h p =
-        let less : length (keep (others x) (x ∷ l)) < suc (length l) = rw (decides .self x) (omega (arith, keep-fewer (others x) l)) in
+        let less : length (keep (others x) (x ∷ l)) < suc (length l) =
+        rw (decides .self x) (omega (arith, keep-fewer (others x) l)) in
         omega (
           arith,
           count-keep p (others x) (x ∷ l),
@@ -91,7 +94,8 @@ same-often R equal d l m = ((λ h x. h (equal x)), λ h. often-same equal d (len
 -- ---- the four kinds
 
 -- a record that its numbers give back
-by-numbers : {R : Type 0} (numbers : R → List ℕ) (back : List ℕ → R) → ((x : R) → back (numbers x) ≡ x) → Decides (equalBy numbers)
+by-numbers : {R : Type 0} (numbers : R → List ℕ) (back : List ℕ → R) → ((x : R) → back (numbers x) ≡ x)
+    → Decides (equalBy numbers)
 by-numbers numbers back h = record {
   one = λ x y e. sym (h x) ∙ ap back (same-numbers (numbers x) (numbers y) e) ∙ h y;
   self = λ x. same-self (numbers x);

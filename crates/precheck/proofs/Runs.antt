@@ -1,4 +1,4 @@
--- There is a run of every list of lines over every book, its answers are fixed, and what it leaves of each depository.
+-- There is a run of every list of lines over every book, and its answers are fixed.
 use Prim.Native.Nat.{ℕ, _≤_}
 use mathlib.Core.Path.{_≡_, refl, ap, ap₂, sym, _∙_}
 use mathlib.Core.Bool.{Bool, true, false, cond}
@@ -7,12 +7,11 @@ use native.Mathlib.Omega.{arith}
 use lib.Dec.{leb}
 use lib.ListN.{length, replicate, getD}
 use borrow.Author.Tests.{leb-true}
-use Rattle.tables.specs.Count.{keep}
 use Rattle.tables.proofs.Counts.{cases, cases-eq, and-r}
 use Rattle.meaning.specs.Fields.{within, fields}
 use Rattle.meaning.specs.Records as M
 use Rattle.meaning.specs.SameBook.{SameBook}
-use Rattle.meaning.specs.Lone.{step, after, names, digit, depository}
+use Rattle.meaning.specs.Lone.{names, digit, depository}
 use Rattle.meaning.specs.Nobody.{NamesNobody}
 use Rattle.meaning.specs.Printing.{numbersOf}
 use Rattle.meaning.specs.declared.Answer.{Answer}
@@ -25,9 +24,8 @@ use Rattle.book.specs.Sound.{sound}
 use Rattle.book.proofs.Lists.{book-same, list-same}
 use Rattle.book.proofs.SameBooks.{same-books, same-then}
 use Rattle.precheck.specs.Promise.{Submitted, answerIn, loneAfter, leftAsFound}
-use Rattle.precheck.specs.Alone.{Run, done, sent, bookLeft, SomeRun, OneAnswer, NobodysLine}
+use Rattle.precheck.specs.Alone.{Run, done, sent, SomeRun, OneAnswer, NobodysLine}
 use Rattle.answering.proofs.Submits.{keeps-promise, untaken-kept}
-use Rattle.precheck.proofs.Alone.{named-after, other-after}
 
 -- ---- there is a run
 
@@ -51,8 +49,10 @@ pub nobodys-line : NobodysLine
 unfolding answerIn
 nobodys-line line h =
     let u = nobody-refused line h in
-    let said : (b b′ : List ℕ) (x : Answer) → Submitted b line x b′ → x ≡ cond (sound b) (Refused (u .refusal)) (Refused 1) =
-    λ b b′ x t. t .answered ∙ ap (λ z. cond (sound b) (z .answer) (Refused 1)) (u .everywhere (loneBook (depository line) b)) in
+    let said : (b b′ : List ℕ) (x : Answer) → Submitted b line x b′
+    → x ≡ cond (sound b) (Refused (u .refusal)) (Refused 1) =
+    λ b b′ x t.
+    t .answered ∙ ap (λ z. cond (sound b) (z .answer) (Refused 1)) (u .everywhere (loneBook (depository line) b)) in
     record {
       refusal = u .refusal;
       low = u .low;
@@ -114,9 +114,9 @@ module _ (b b′ : List ℕ) (s : sound b ≡ true) (s′ : sound b′ ≡ true)
 sound-alike : {b b′ : List ℕ} {lines : List (List ℕ)} {as′ bs′ : List Answer} → Run b lines as′ → Run b′ lines bs′
     → sound b ≡ true → sound b′ ≡ true → Alike b b′ → as′ ≡ bs′
 sound-alike done done s s′ h = refl
-sound-alike (sent {book = b} {next = n} {line = line} {answer = x} t r) (sent {book = b′} {next = n′} {answer = x′} t′ r′) s s′ h =
-    ap₂ _∷_ (t .answered ∙ answer-alike b b′ s s′ h line ∙ sym (t′ .answered))
-    (sound-alike r r′ (t .stays s) (t′ .stays s′) (next-alike b b′ s s′ h line n n′ x x′ t t′))
+sound-alike (sent {line = line} t r) (sent t′ r′) s s′ h =
+    ap₂ _∷_ (t .answered ∙ answer-alike _ _ s s′ h line ∙ sym (t′ .answered))
+    (sound-alike r r′ (t .stays s) (t′ .stays s′) (next-alike _ _ s s′ h line _ _ _ _ t t′))
 
 -- over a book that isn't sound every answer is refusal 1
 unsound-refused : {b : List ℕ} {lines : List (List ℕ)} {as′ : List Answer} → Run b lines as′ → sound b ≡ false
@@ -132,29 +132,3 @@ one-answer book lines as′ bs′ r r′ =
     cases (sound book)
     (λ s. sound-alike r r′ s s (λ c low high. same-books refl))
     (λ s. unsound-refused r s ∙ sym (unsound-refused r′ s))
-
--- ---- what a run leaves
-
-pub left-sound : {b : List ℕ} {lines : List (List ℕ)} {as′ : List Answer} (r : Run b lines as′) → sound b ≡ true
-    → sound (bookLeft r) ≡ true
-unfolding bookLeft
-left-sound done s = s
-left-sound (sent t r) s = left-sound r (t .stays s)
-
--- of each depository the lone book after the lines that name it
-module _ (a : ℕ) (low : 1 ≤ a) (high : a ≤ 8) where
-  pub left-lone : {b : List ℕ} {lines : List (List ℕ)} {as′ : List Answer} (r : Run b lines as′) (m : M.Book)
-      → sound b ≡ true → SameBook (loneBook a b) m → SameBook (loneBook a (bookLeft r)) (after m (keep (names a) lines))
-  unfolding bookLeft keep after
-  left-lone done m s h = h
-  left-lone (sent {book = b} {next = n} {line = line} t r) m s h =
-      cases (names a line)
-      (λ e.
-      rw e
-      (left-lone r (step m line .book) (t .stays s)
-      (same-then (loneBook a n) (step (loneBook a b) line .book) (step m line .book)
-      (named-after a low high b n line e (t .records s a low high)) (step-same (loneBook a b) m h line .book))))
-      (λ e.
-      rw e
-      (left-lone r m (t .stays s)
-      (same-then (loneBook a n) (loneBook a b) m (other-after a low high b n line e (t .records s a low high)) h)))

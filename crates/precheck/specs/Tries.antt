@@ -1,5 +1,5 @@
--- 'What a reviewer will try' (document 01): of each of these pre-checks a book and a line are named at which its answer,
--- or what it leaves, does not keep the promise of `submit`. Stated here, proved in proofs/Tries. Assumes nothing.
+-- 'What a reviewer will try' (document 01): for each of these pre-checks a book and a line are named at which its
+-- answer, or what it leaves, breaks the promise of `submit`. Stated here, proved in proofs/Tries. Assumes nothing.
 use Prim.Native.Nat.{ℕ, zero, suc}
 use mathlib.Core.Path.{_≡_}
 use mathlib.Core.List.{List, [], _∷_, _++_}
@@ -13,9 +13,14 @@ use Rattle.meaning.specs.declared.Answer.the-variants.{Taken, Refused}
 use Rattle.book.specs.Emptied.{Emptied}
 use Rattle.book.specs.Lone.{loneBook}
 use Rattle.precheck.specs.Promise.{Submitted}
-use Rattle.precheck.specs.Alone.{Run, bookLeft}
+use Rattle.precheck.specs.Alone.{Run, done, sent}
 
 -- ---- the books: what lines sent one by one leave of an emptied book
+
+unfoldable pub bookLeft : {book : List ℕ} {lines : List (List ℕ)} {answers : List Answer} → Run book lines answers
+    → List ℕ
+bookLeft (done {book = book}) = book
+bookLeft (sent submitted run) = bookLeft run
 
 pub record LeftBy (lines : List (List ℕ)) (book : List ℕ) : Type 0 where
   pub lent : List ℕ
@@ -54,15 +59,17 @@ deskLines =
 abbrev pub question : List ℕ
 question = bytes "Q,2,20170207,1,2,DELI,FREE,,EUR,11,20,30"
 
--- rule n of type 9, by the text in front of its type
-abbrev pub ruleLine : List ℕ → ℕ → List ℕ
-ruleLine front n = front ++ bytes ",20170206,9,1," ++ numeral n ++ bytes ",P,4,20170207,20991231"
-
--- rules n to 1
-unfoldable pub ruleLines : List ℕ → ℕ → List (List ℕ)
+-- the depository's rule of that sequence
+unfoldable pub ruleLine : ℕ → ℕ → List ℕ
 unfolding numeral
-ruleLines front zero = []
-ruleLines front (suc n) = ruleLine front (suc n) ∷ ruleLines front n
+ruleLine csd sequence =
+    bytes "R," ++ numeral csd ++ bytes ",20170206,9,1," ++ numeral sequence ++ bytes ",P,4,20170207,20991231"
+
+-- its rules n to 1
+unfoldable pub ruleLines : ℕ → ℕ → List (List ℕ)
+unfolding ruleLine
+ruleLines csd zero = []
+ruleLines csd (suc n) = ruleLine csd (suc n) ∷ ruleLines csd n
 
 -- ---- the four tries
 
@@ -78,9 +85,9 @@ pub record Tries : Type 0 where
       (before after : List ℕ) → LeftBy [] before → SameBook (loneBook 2 after) (loneBook 2 before)
       → Submitted before typeLine Taken after → ⊥
   -- 'says 10 below the quota': 63 rules are held, the line gives the 64th
-  pub says-ten : Refuted (typeLine ∷ ruleLines (bytes "R,2") 63) (ruleLine (bytes "R,2") 64) (bytes "K") (bytes "F,10")
+  pub says-ten : Refuted (typeLine ∷ ruleLines 2 63) (ruleLine 2 64) (bytes "K") (bytes "F,10")
   -- and at the quota 10 is right
-  pub never-ten : Refuted (typeLine ∷ ruleLines (bytes "R,2") 64) (ruleLine (bytes "R,2") 65) (bytes "F,10") (bytes "K")
+  pub never-ten : Refuted (typeLine ∷ ruleLines 2 64) (ruleLine 2 65) (bytes "F,10") (bytes "K")
 
 -- ---- the slips of this trade, and a neighbour
 
@@ -113,9 +120,9 @@ pub record Slips : Type 0 where
   pub every-status :
       Refuted kelerBook (bytes "Q,1,20170315,1,2,DELI,FREE,CORP,EUR,12,25,30") (bytes "V,R,1,1,0,0,0,0")
       (bytes "V,A,0,0,0,0,0,0")
-  -- 'a neighbour's rules bring refusal 10': depository 1 holds 64, depository 2 none
+  -- 'a neighbour's rules bring refusal 10': depository 1 holds 64, depository 2 no rule
   pub neighbours-quota :
-      Refuted (neighboursLine ∷ ruleLines (bytes "R,1") 64 ++ (typeLine ∷ [])) (ruleLine (bytes "R,2") 1) (bytes "K")
+      Refuted (neighboursLine ∷ ruleLines 1 64 ++ (typeLine ∷ [])) (ruleLine 2 1) (bytes "K")
       (bytes "F,10")
   -- 'Naming the first rule found in storage after a deletion has moved records'
   pub first-stored : Refuted movedLines question (bytes "V,A,0,0,0,0,9,7") (bytes "V,A,0,0,0,0,9,9")
