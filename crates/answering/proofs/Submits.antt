@@ -1,7 +1,7 @@
--- What each return of `take` and `answer` shows, and the promise of `submit` from it.
-use Prim.Native.Nat.{ℕ, zero, suc, _%_, _≤_}
+-- What each return of `answer` shows: the promise of `submit`.
+use Prim.Native.Nat.{ℕ, _%_, _≤_}
 use mathlib.Core.Path.{_≡_, refl, ap, sym, _∙_}
-use mathlib.Core.Bool.{Bool, true, false, not, or-true, false≢true}
+use mathlib.Core.Bool.{Bool, true, false, cond, not, or-true, false≢true}
 use mathlib.Core.List.{List}
 use mathlib.Core.Option.{Option, some, none}
 use native.Mathlib.Omega.{arith}
@@ -13,87 +13,39 @@ use Rattle.meaning.specs.Records as M
 use Rattle.meaning.specs.Records.{_!_, commandOf, questionIn}
 use Rattle.meaning.specs.Reading.{Reading, refused, asks, numbersRead, unlessWrong, reading}
 use Rattle.meaning.specs.Refusals.{wrong, refusal}
+use Rattle.meaning.specs.Edits.{fits}
 use Rattle.meaning.specs.Lone.{replied, reply, unless, taken, afterReading, step, isSome, isQuestion, keepsRead, keeps, names, depository}
 use Rattle.meaning.specs.SameBook.{SameBook}
-use Rattle.meaning.specs.Sound.{soundLone}
 use Rattle.meaning.specs.declared.Answer.{Answer}
-use Rattle.meaning.specs.declared.Answer.the-variants.{Taken, Refused, Judged}
+use Rattle.meaning.specs.declared.Answer.the-variants.{Taken, Refused}
 use Rattle.meaning.proofs.Ranges.{reading-ranged, reading-fits}
 use Rattle.meaning.proofs.Names.{reading-csd, reading-names, reading-depository, names-depository}
-use Rattle.commands.specs.Asked.{askedBy, asked, questionAsked, questionOn, whatOf, coded, letterFor}
+use Rattle.commands.specs.Asked.{asked, coded, letterFor}
 use Rattle.commands.specs.declared.Question.{Question}
-use Rattle.commands.specs.declared.What.{What}
-use Rattle.commands.specs.declared.What.the-variants as What
 use Rattle.commands.specs.declared.Command.{Command}
 use Rattle.commands.proofs.Decoded.{letter-for}
-use Rattle.commands.proofs.Narrow.{Narrow, asOn, asMeant, asked-coded, question-coded, question-same, narrow-read}
+use Rattle.commands.proofs.Narrow.{asOn, asked-coded, question-coded, narrow-read}
 use Rattle.book.specs.Lone.{loneBook}
 use Rattle.book.specs.Sound.{sound}
 use Rattle.book.proofs.SameBooks.{same-books}
 use Rattle.edits.specs.Edit.{editIn}
 use Rattle.edits.proofs.Leave.{question-left}
-use Rattle.edits.proofs.Stay.{sound-lone, edit-left, edit-sound}
-use Rattle.judge.specs.Stages.{judgedBy}
-use Rattle.judge.proofs.VerdictRight.{judged-right}
 use Rattle.line.specs.declared.reading.Line.{Line}
 use Rattle.line.specs.Line.{lineOf}
 use Rattle.line.proofs.LineCallers as Read
 use Rattle.answering.specs.Promise.{answerIn, loneAfter, leftAsFound, Submitted}
-use Rattle.answering.specs.Taking.{refusalOf, repliedTo, replyTo, answerOf, bytesAfter, Took, commandIn, answerRead, bytesRead, answerBy, bytesBy, Answers}
+use Rattle.answering.specs.Taking.{refusalOf, answerOf, bytesAfter, Ready, Took, commandIn, answerRead, bytesRead, answerBy, bytesBy, Answers}
+use Rattle.answering.proofs.Commands.{took-any}
 
--- ---- the returns of take
+-- ---- the depository of a question
 
-question-asked : (c : Command) (q : Question) → c .what ≡ What.Ask q → isQuestion (asked c) ≡ true
-unfolding askedBy
-question-asked c q e = ap (λ x. isQuestion (askedBy (c .day) (c .row) x)) e
+abbrev csdIn : ℕ → Option Question → ℕ
+csdIn c none = c
+csdIn c (some q) = q .csd
 
-module _ (b : List ℕ) (c : Command) where
-  pub took-refusal : (n : ℕ) (x : Answer) → (n ≡ 0 → ⊥) → x ≡ Refused n → n ≡ refusal (loneBook (c .csd) b) (asked c)
-      → Took b c x b
-  unfolding answerOf bytesAfter refusalOf
-  took-refusal n x f g h =
-      let r : eqb (refusal (loneBook (c .csd) b) (asked c)) 0 ≡ false = ap (λ k. eqb k 0) (sym h) ∙ ne-eqb n 0 f in
-      record { answered = rw r (g ∙ ap Refused h); bytes = rw r }
-
-  module _ (n : ℕ) (none-holds : n ≡ 0) (holds : n ≡ refusal (loneBook (c .csd) b) (asked c)) where
-    took : (b′ : List ℕ) (x : Answer) → x ≡ replyTo b (c .what) → b′ ≡ editIn b (c .csd) (asked c) → Took b c x b′
-    unfolding answerOf bytesAfter refusalOf
-    took b′ x h g =
-        let r : eqb (refusal (loneBook (c .csd) b) (asked c)) 0 ≡ true = eq-eqb _ 0 (sym holds ∙ none-holds) in
-        record { answered = rw r h; bytes = rw r g }
-
-    pub took-question : (q : Question) (v : _) → c .what ≡ What.Ask q → v ≡ judgedBy b q → Took b c (Judged v) b
-    unfolding replyTo
-    took-question q v e f = took b (Judged v) (rw (e, f)) (sym (question-left b (c .csd) (asked c) (question-asked c q e)))
-
-    pub took-edit : (b′ : List ℕ) → questionAsked (c .what) ≡ none → b′ ≡ editIn b (c .csd) (asked c) → Took b c Taken b′
-    unfolding replyTo
-    took-edit b′ e g = took b′ Taken (rw e) g
-
--- ---- what is replied is the meaning's
-
-question-right : (b : List ℕ) (c : ℕ) → soundLone (loneBook c b) ≡ true → (q : Option M.Question)
-    → repliedTo b (asOn c q) ≡ replied (loneBook c b) (asMeant (asOn c q))
-unfolding repliedTo replied
-question-right b c s none = refl
-question-right b c s (some q) = ap Judged (judged-right b (questionOn c q) s)
-
-reply-coded : (b : List ℕ) (c d : ℕ) (k : M.Command) → Narrow d k → soundLone (loneBook c b) ≡ true
-    → replyTo b (whatOf c k) ≡ reply (loneBook c b) k
-unfolding replyTo reply
-reply-coded b c d k n s =
-    ap (repliedTo b) (question-coded c k) ∙ question-right b c s (questionIn k)
-    ∙ ap (replied (loneBook c b)) (question-same c d k n)
-
--- any other command is replied K
-none-replied : (m : M.Book) (q : Option M.Question) → isSome q ≡ false → replied m q ≡ Taken
-unfolding replied
-none-replied m none e = refl
-none-replied m (some q) e = absurd (false≢true (sym e))
-
-reply-edit : (m : M.Book) (k : M.Command) → isQuestion k ≡ false → reply m k ≡ Taken
-unfolding reply
-reply-edit m k = none-replied m (questionIn k)
+own-csd : (c : ℕ) (q : Option M.Question) → csdIn c (asOn c q) ≡ c
+own-csd c none = refl
+own-csd c (some q) = refl
 
 -- ---- the promise, by what is read
 
@@ -169,47 +121,44 @@ module _ (b line : List ℕ) (l : Letter) (v : List ℕ) (s : sound b ≡ true) 
             (λ y. rw (other a u h y, others a u y) (same-book (loneBook a b)));
       }
 
-  -- refused 6 to 10
-  unless-refused : (n : ℕ) (z : M.Book) → (n ≡ 0 → ⊥) → unless n z k ≡ record { answer = Refused n; book = z }
-  unfolding unless
-  unless-refused zero z h = absurd (h refl)
-  unless-refused (suc n) z h = refl
-
-  submitted-refused : (x : Answer) → (refusal m k ≡ 0 → ⊥) → x ≡ Refused (refusal m k) → Submitted b line x b
-  unfolding taken
-  submitted-refused x h f =
-      let u = unless-refused (refusal m k) m h in
-      submitted-by x b (f ∙ ap (λ z. z .answer) (sym u)) (λ z. refl) s (rw u (same-book m)) (λ a y d. refl)
-
   -- a question that is not refused leaves every byte
   left-question : refusal m k ≡ 0 → leftAsFound b line ≡ true → isQuestion k ≡ true
   unfolding leftAsFound keeps keepsRead
   left-question r h = rw (s, dep, e, eq-eqb (refusal m k) 0 r) at h
 
-  submitted-taken : (x : Answer) (b′ : List ℕ) → refusal m k ≡ 0 → x ≡ reply m k → b′ ≡ editIn b c k
-      → Submitted b line x b′
-  unfolding taken unless
-  submitted-taken x b′ r f i =
-      let fit = reading-fits line l v e in
-      let left = edit-left b c s low high k fit r in
-      rw i
-      (submitted-by x (editIn b c k) (rw r f) (λ z. question-left b c k (left-question r z))
-      (edit-sound b c s low high k fit r) (rw r (left .own)) (left .others))
+  -- the code's command is the meaning's
+  abbrev d : Command
+  d = coded c (v ! 1) k
+
+  same : asked d ≡ k
+  same = asked-coded c (v ! 1) k (narrow-read l v (reading-ranged line l v e))
+
+  ready : Ready b d
+  unfolding coded
+  ready =
+      record {
+        book = s;
+        low = low;
+        high = high;
+        fits = ap fits same ∙ reading-fits line l v e;
+        own = λ q f. sym (ap (csdIn c) (sym (question-coded c k) ∙ f)) ∙ own-csd c (questionIn k);
+      }
+
+  kept : (b′ : List ℕ) → b′ ≡ bytesAfter b d → leftAsFound b line ≡ true → b′ ≡ b
+  unfolding bytesAfter refusalOf coded
+  kept b′ i h =
+      let j : b′ ≡ cond (eqb (refusal m k) 0) (editIn b c k) b = i ∙ ap (λ z. cond (eqb (refusal m z) 0) (editIn b c z) b) same in
+      cases-eq (refusal m k) 0
+      (λ r. (rw (eq-eqb (refusal m k) 0 r) at j) ∙ question-left b c k (left-question r h))
+      (λ r. rw (ne-eqb (refusal m k) 0 r) at j)
 
   -- THE PROMISE for a line that is read, from what `take` does.
-  submitted-read : (x : Answer) (b′ : List ℕ) → Took b (coded c (v ! 1) k) x b′ → Submitted b line x b′
-  unfolding answerOf bytesAfter refusalOf coded
+  submitted-read : (x : Answer) (b′ : List ℕ) → Took b d x b′ → Submitted b line x b′
+  unfolding coded
   submitted-read x b′ t =
-      let n = narrow-read l v (reading-ranged line l v e) in
-      let a : asked (coded c (v ! 1) k) ≡ k = asked-coded c (v ! 1) k n in
-      cases-eq (refusal m k) 0
-      (λ r.
-      let y : eqb (refusal m (asked (coded c (v ! 1) k))) 0 ≡ true = rw a (eq-eqb (refusal m k) 0 r) in
-      submitted-taken x b′ r ((rw y at (t .answered)) ∙ reply-coded b c (v ! 1) k n (sound-lone b s c low high))
-      ((rw y at (t .bytes)) ∙ ap (editIn b c) a))
-      (λ r.
-      let y : eqb (refusal m (asked (coded c (v ! 1) k))) 0 ≡ false = rw a (ne-eqb (refusal m k) 0 r) in
-      rw (rw y at (t .bytes)) (submitted-refused x r ((rw y at (t .answered)) ∙ ap (λ z. Refused (refusal m z)) a)))
+      let y = t .meant ready in
+      submitted-by x b′ (y .answered ∙ ap (λ z. taken m z .answer) same) (kept b′ (t .bytes)) (y .stays)
+      (rw same at (y .left .own)) (y .left .others)
 
 -- ---- from what the code read to the meaning's command
 
@@ -319,7 +268,7 @@ answers-any b line s =
     (λ w.
     rw (eq-eqb (l .refusal) 0 e, w)
     (answers-read b line true (answerOf b (commandIn l)) l refl refl e (commandIn l) false refl (sym w)
-    (bytesAfter b (commandIn l)) refl (record { answered = refl; bytes = refl }))))
+    (bytesAfter b (commandIn l)) refl (took-any b (commandIn l)))))
     (λ e. rw (ne-eqb (l .refusal) 0 e) (answers-unread b line true (Refused (l .refusal)) l refl refl e refl))
 
 pub keeps-promise : (b line : List ℕ) → Submitted b line (answerBy (sound b) b line) (bytesBy (sound b) b line)
@@ -330,6 +279,16 @@ keeps-promise b line =
     (λ s. rw s (answers-unsound b line false (Refused 1) refl refl .promise (sym s)))
 
 -- ---- an answer other than K: every byte is left
+
+-- any other command is replied K
+none-replied : (m : M.Book) (q : Option M.Question) → isSome q ≡ false → replied m q ≡ Taken
+unfolding replied
+none-replied m none e = refl
+none-replied m (some q) e = absurd (false≢true (sym e))
+
+reply-edit : (m : M.Book) (k : M.Command) → isQuestion k ≡ false → reply m k ≡ Taken
+unfolding reply
+reply-edit m k = none-replied m (questionIn k)
 
 untaken-keeps : (m : M.Book) (y : Reading) → (afterReading m y .answer ≡ Taken → ⊥) → keepsRead m y ≡ true
 unfolding afterReading keepsRead taken unless

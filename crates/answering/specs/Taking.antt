@@ -1,12 +1,14 @@
 -- What a line does to a book: its answer and the bytes after it. Assumes nothing.
-use Prim.Native.Nat.{ℕ}
+use Prim.Native.Nat.{ℕ, _≤_}
 use mathlib.Core.Path.{_≡_}
-use mathlib.Core.Bool.{Bool, cond}
+use mathlib.Core.Bool.{Bool, true, cond}
 use mathlib.Core.List.{List}
 use mathlib.Core.Option.{Option, some, none}
 use lib.Dec.{eqb}
 use Rattle.meaning.specs.Reading.{numbersRead}
 use Rattle.meaning.specs.Refusals.{wrong, refusal}
+use Rattle.meaning.specs.Edits as meant
+use Rattle.meaning.specs.Lone.{taken}
 use Rattle.meaning.specs.declared.Answer.{Answer}
 use Rattle.meaning.specs.declared.Answer.the-variants.{Taken, Refused, Judged}
 use Rattle.commands.specs.Asked.{asked, questionAsked, letterFor, commandFrom}
@@ -16,6 +18,7 @@ use Rattle.commands.specs.declared.Command.{Command}
 use Rattle.book.specs.Lone.{loneBook}
 use Rattle.book.specs.Sound.{sound}
 use Rattle.edits.specs.Edit.{editIn}
+use Rattle.edits.specs.Leaves.{Leaves}
 use Rattle.judge.specs.Stages.{judgedBy}
 use Rattle.line.specs.Line.{lineOf}
 use Rattle.line.specs.declared.reading.Line.{Line}
@@ -43,9 +46,25 @@ answerOf b c = cond (eqb (refusalOf b c) 0) (replyTo b (c .what)) (Refused (refu
 unfoldable pub bytesAfter : List ℕ → Command → List ℕ
 bytesAfter b c = cond (eqb (refusalOf b c) 0) (editIn b (c .csd) (asked c)) b
 
+-- a command as a line that is read asks it, over a sound book: of a depository, in range, its question that depository's
+pub record Ready (b : List ℕ) (c : Command) : Type 0 where
+  pub book : sound b ≡ true
+  pub low : 1 ≤ c .csd
+  pub high : c .csd ≤ 8
+  pub fits : meant.fits (asked c) ≡ true
+  pub own : (q : Question) → questionAsked (c .what) ≡ some q → q .csd ≡ c .csd
+
+-- what the meaning says of it over the depository's lone book: the answer, and what is left of every lone book; and the
+-- book stays sound
+pub record Meant (before : List ℕ) (c : Command) (answer : Answer) (after : List ℕ) : Type 0 where
+  pub answered : answer ≡ taken (loneBook (c .csd) before) (asked c) .answer
+  pub left : Leaves before after (c .csd) (taken (loneBook (c .csd) before) (asked c) .book)
+  pub stays : sound after ≡ true
+
 pub record Took (before : List ℕ) (c : Command) (answer : Answer) (after : List ℕ) : Type 0 where
   pub answered : answer ≡ answerOf before c
   pub bytes : after ≡ bytesAfter before c
+  pub meant : Ready before c → Meant before c answer after
 
 -- ---- any line
 

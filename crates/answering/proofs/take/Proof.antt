@@ -1,5 +1,5 @@
 -- `answering::take` meets its contract. Assumes nothing.
-use Rattle.answering.proofs.Submits.{took-refusal, took-question, took-edit}
+use Rattle.answering.proofs.Commands.{took-refusal, took-question, took-edit, question-of}
 use Rattle.commands.proofs.Narrow.{not-asked}
 use borrow.Author.Needs.{needs}
 use Rattle.answering.proofs.take.Statement.{statement}
@@ -15,7 +15,7 @@ take-spec =
     (λ c. search needs)
     (λ c κs. search needs)
     (λ c. search needs)
-    (λ c. search took-question)
+    (λ c. search (took-question, question-of))
     (λ c κs. search needs)
     (λ c. search needs)
     (λ c. search (took-edit, not-asked)))

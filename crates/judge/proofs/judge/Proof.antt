@@ -1,6 +1,6 @@
 -- `judge::judge` meets its contract. Assumes nothing.
 use borrow.Author.Needs.{needs}
-use Rattle.judge.proofs.Judging.{by-stages}
+use Rattle.judge.proofs.Judging.{by-stages, stages-meant}
 use Rattle.judge.proofs.judge.Statement.{statement}
 use Rattle.judge.proofs.judge.Tie as tie
 
@@ -18,4 +18,4 @@ judge-spec =
     (λ c. search needs)
     (λ c. search needs)
     (λ c κs. search needs)
-    (λ c. search by-stages))
+    (λ c. search (by-stages, stages-meant)))
