@@ -30,7 +30,7 @@ use Rattle.meaning.specs.Exercise.{
   ElsewhereChanges,
   BehindAnother,
   NegativeMoved,
-  RowlessMoved,
+  WithoutRowsMoved,
 }
 use Rattle.meaning.proofs.Keys.{rule-key, is-rule, is-of}
 use Rattle.meaning.proofs.Listed.{not-so, has-map}
@@ -253,8 +253,8 @@ has-row b q n o s x t e =
     let k = rule-key n o s x t in
     rw (k .0, k .1, k .2) (has-map _ (ofRule (x .type) (x .object) (x .sequence)) (b .rows) e (λ w h. search ands))
 
-pub rowless-moved : RowlessMoved
-rowless-moved b r new lines m none q =
+pub without-rows-moved : WithoutRowsMoved
+without-rows-moved b r new lines m none q =
     unmoved (shifted m) q
     (λ type x u p.
     not-so (isRule (r .type) (r .object) (r .sequence) x) _ none

@@ -8,7 +8,7 @@ use borrow.Author.Tests.{eqb-true, eq-eqb, eqb-false}
 use Rattle.tables.proofs.Counts.{cases, both, neither}
 use Rattle.meaning.specs.Records.{Book, Question, rejection, validationHold, partyHold}
 use Rattle.meaning.specs.Judging.{by, named, deciding, decided, verdict, judged}
-use Rattle.meaning.specs.Exercise.{sequenced, resequenced, SameTypes, isIt, namesRule}
+use Rattle.meaning.specs.Exercise.{sequenced, resequenced, SameTypes, isDeciding, namesRule}
 use Rattle.meaning.specs.declared.Deciding.{Deciding}
 use Rattle.meaning.specs.declared.Verdict.{Verdict}
 
@@ -59,14 +59,14 @@ either false b e y n = n e
 
 module _ (type : ℕ) (some-type : 1 ≤ type) where
   -- a type that is named stands there, with its sequence
-  it-number : (f : ℕ → ℕ) (k n : ℕ) → isIt type k (sequenced f n) ≡ true → (n ≡ type) × (f type ≡ k)
+  it-number : (f : ℕ → ℕ) (k n : ℕ) → isDeciding type k (sequenced f n) ≡ true → (n ≡ type) × (f type ≡ k)
   it-number f k zero t = absurd (omega (arith, eqb-true 0 type (both (eqb 0 type) (eqb 0 k) t .0)))
   it-number f k (suc n) t =
       let c = both (eqb (suc n) type) (eqb (f (suc n)) k) t in
       let z = eqb-true (suc n) type (c .0) in
       (z, ap f (sym z) ∙ eqb-true (f (suc n)) k (c .1))
 
-  it-again : (f : ℕ → ℕ) (n : ℕ) → n ≡ type → isIt type (f type) (sequenced f n) ≡ true
+  it-again : (f : ℕ → ℕ) (n : ℕ) → n ≡ type → isDeciding type (f type) (sequenced f n) ≡ true
   it-again f zero z = absurd (omega arith)
   it-again f (suc n) z = rw (eq-eqb (suc n) type z, eq-eqb (f (suc n)) (f type) (ap f z))
 
@@ -81,15 +81,15 @@ module _ (type : ℕ) (some-type : 1 ≤ type) where
       → namesRule type (g type) (resequenced g v) ≡ true
   unfolding namesRule resequenced
   named-again f g k v e =
-      let again : (n : ℕ) → isIt type k (sequenced f n) ≡ true → isIt type (g type) (sequenced g n) ≡ true =
+      let again : (n : ℕ) → isDeciding type k (sequenced f n) ≡ true → isDeciding type (g type) (sequenced g n) ≡ true =
       λ n t. it-again g n (it-number f k n t .0) in
       either _ _ e (λ t. rw (again (v .rejection .number) t))
       (λ e.
       either _ _ e
-      (λ t. rw (again (v .validation .number) t) (or-true (isIt type (g type) (sequenced g (v .rejection .number)))))
+      (λ t. rw (again (v .validation .number) t) (or-true (isDeciding type (g type) (sequenced g (v .rejection .number)))))
       (λ t.
-      rw (again (v .party .number) t, or-true (isIt type (g type) (sequenced g (v .validation .number))))
-      (or-true (isIt type (g type) (sequenced g (v .rejection .number))))))
+      rw (again (v .party .number) t, or-true (isDeciding type (g type) (sequenced g (v .validation .number))))
+      (or-true (isDeciding type (g type) (sequenced g (v .rejection .number))))))
 
 -- ---- two sequences of the same verdict
 
@@ -105,7 +105,7 @@ parted true a b c e = let d = neither a (b || c) e in let f = neither b c (d .1)
 module _ (f g : ℕ → ℕ) (type j k : ℕ) (on : Bool)
     (same : (n : ℕ) → (on && eqb n type) ≡ false → g n ≡ f n)
     (apart : (f type ≡ j → ⊥) → (g type ≡ k → ⊥) → g type ≡ f type) where
-  one-stays : (n : ℕ) → (on && isIt type j (sequenced f n)) ≡ false → (on && isIt type k (sequenced g n)) ≡ false
+  one-stays : (n : ℕ) → (on && isDeciding type j (sequenced f n)) ≡ false → (on && isDeciding type k (sequenced g n)) ≡ false
       → sequenced g n ≡ sequenced f n
   one-stays zero d e = refl
   one-stays (suc n) d e =

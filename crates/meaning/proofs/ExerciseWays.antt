@@ -15,7 +15,7 @@ use Rattle.meaning.specs.Edits.{ruleMoved, edited, fits}
 use Rattle.meaning.specs.Sound.{ruleFits}
 use Rattle.meaning.specs.SameBook.{SameBook}
 use Rattle.meaning.specs.Lone.{after}
-use Rattle.meaning.specs.Exercise.{sameRule, Way, byReorder, byEntry, Moves}
+use Rattle.meaning.specs.Exercise.{sameRule, Way, byReorder, byEntry, Moves, EitherWay}
 use Rattle.meaning.proofs.First.{command-not-refused}
 use Rattle.meaning.proofs.Keys.{rule-key}
 use Rattle.meaning.proofs.Listed.{not-so, has-map, has-without}
@@ -91,3 +91,14 @@ module _ (b : Book) (r : Rule) (new : ℕ) (lines : List (List ℕ)) (g : Good b
 pub shifted : {b : Book} {r : Rule} {new : ℕ} {lines : List (List ℕ)} → Moves b r new lines → Shifted b r new (after b lines)
 shifted {b = b} {r = r} {new = new} {lines = lines} m =
     by-way b r new lines (good-of-sound b (m .sound)) (m .held) (m .way)
+
+pub either-way : EitherWay
+either-way b r new lines others m n =
+    let s = shifted m .same in
+    let t = shifted n .same in
+    record {
+      types = λ p. s .types p ∙ sym (t .types p);
+      rules = λ p. s .rules p ∙ sym (t .rules p);
+      rows = λ p. s .rows p ∙ sym (t .rows p);
+      periods = λ p. s .periods p ∙ sym (t .periods p);
+    }

@@ -26,4 +26,5 @@ pub mod ExerciseOutIn
 pub mod ExerciseWays
 pub mod ExerciseVerdict
 pub mod ExerciseMoved
-pub mod ExerciseRowless
+pub mod ExerciseWithoutRows
+pub mod ExerciseDesks

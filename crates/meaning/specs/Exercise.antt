@@ -80,7 +80,8 @@ PutBackAnswers =
 
 -- ---- put back elsewhere
 
--- the two ways to another sequence: O; or out and in again under that number, with the same rows in any order
+-- the two ways to another sequence: O; or out and in again under that number, with the same rows in any order, those of
+-- the rule under that number too
 pub data Way (b : Book) (r : Rule) (new : ℕ) (lines : List (List ℕ)) : Type 0 where
   byReorder : Entered b lines (reorder (r .type) (r .object) (r .sequence) new ∷ []) → Way b r new lines
   byEntry : (new ≡ r .sequence → ⊥) → (out rows : List Row)
@@ -92,6 +93,12 @@ pub record Moves (b : Book) (r : Rule) (new : ℕ) (lines : List (List ℕ)) : T
   pub sound : soundLone b ≡ true
   pub held : has (sameRule r) (b .rules) ≡ true
   pub way : Way b r new lines
+
+-- Both ways lead to exactly the same records.
+abbrev pub EitherWay : Type 0
+EitherWay =
+    (b : Book) (r : Rule) (new : ℕ) (lines others : List (List ℕ)) → Moves b r new lines → Moves b r new others
+    → SameBook (after b lines) (after b others)
 
 -- the type, if any, with its sequence by f
 abbrev pub sequenced : (ℕ → ℕ) → ℕ → Deciding
@@ -144,12 +151,12 @@ ElsewhereTypes =
     → SameTypes (judged (after b lines) q) (judged b q)
 
 -- whether a verdict names that type with that sequence
-abbrev pub isIt : ℕ → ℕ → Deciding → Bool
-isIt type sequence d = eqb (d .number) type && eqb (d .sequence) sequence
+abbrev pub isDeciding : ℕ → ℕ → Deciding → Bool
+isDeciding type sequence d = eqb (d .number) type && eqb (d .sequence) sequence
 
 unfoldable pub namesRule : ℕ → ℕ → Verdict → Bool
 namesRule type sequence v =
-    isIt type sequence (v .rejection) || (isIt type sequence (v .validation) || isIt type sequence (v .party))
+    isDeciding type sequence (v .rejection) || (isDeciding type sequence (v .validation) || isDeciding type sequence (v .party))
 
 -- the answer to the question names the rule
 unfoldable pub decides : Book → Question → Rule → Bool
@@ -180,20 +187,20 @@ NegativeMoved =
     → (q : Question) → judged (after b lines) q ≡ judged b q
 
 -- A rule without rows changes no answer to any question, wherever it stands: not when it is moved,
-abbrev pub RowlessMoved : Type 0
-RowlessMoved =
+abbrev pub WithoutRowsMoved : Type 0
+WithoutRowsMoved =
     (b : Book) (r : Rule) (new : ℕ) (lines : List (List ℕ)) → Moves b r new lines
     → has (ofRule (r .type) (r .object) (r .sequence)) (b .rows) ≡ false
     → (q : Question) → judged (after b lines) q ≡ judged b q
 
 -- not when it is entered (R; a rule just entered has no rows),
-abbrev pub RowlessEntered : Type 0
-RowlessEntered =
+abbrev pub WithoutRowsEntered : Type 0
+WithoutRowsEntered =
     (b : Book) → soundLone b ≡ true → (day : ℕ) (r : Rule) (lines : List (List ℕ))
     → Entered b lines (addRule day r ∷ []) → (q : Question) → judged (after b lines) q ≡ judged b q
 
 -- and not when it is taken out (D, which is taken only of a rule without rows).
-abbrev pub RowlessDeleted : Type 0
-RowlessDeleted =
+abbrev pub WithoutRowsDeleted : Type 0
+WithoutRowsDeleted =
     (b : Book) (type object sequence : ℕ) (lines : List (List ℕ))
     → Entered b lines (deleteRule type object sequence ∷ []) → (q : Question) → judged (after b lines) q ≡ judged b q

@@ -13,7 +13,7 @@ use Rattle.meaning.specs.Refusals.{conditions}
 use Rattle.meaning.specs.Edits.{withRules, edited}
 use Rattle.meaning.specs.Judging.{covers, tests, matches, ruleApplies, applies, named, deciding, judged}
 use Rattle.meaning.specs.Lone.{after}
-use Rattle.meaning.specs.Exercise.{RowlessEntered, RowlessDeleted}
+use Rattle.meaning.specs.Exercise.{WithoutRowsEntered, WithoutRowsDeleted}
 use Rattle.meaning.proofs.First.{command-not-refused}
 use Rattle.meaning.proofs.Keys.{rule-self}
 use Rattle.meaning.proofs.Listed.{not-so}
@@ -54,9 +54,9 @@ unapplied : (b : Book) (q : Question) (n o s : ℕ) → has (ofRule n o s) (b .r
 unapplied b q n o s none type sign x t =
     not-so (ruleApplies b q type sign x) _ none (λ e. has-row b q n o s x t (applied-matches b q type sign x e))
 
-pub rowless-entered : RowlessEntered
+pub without-rows-entered : WithoutRowsEntered
 unfolding conditions edited every deciding least
-rowless-entered b e day r lines t q =
+without-rows-entered b e day r lines t q =
     let (f, z, l) = accepted t in
     let free = command-not-refused b (addRule day r) refl z 8 in
     let none = no-rows b (good-of-sound b e .lists) (r .type) (r .object) (r .sequence) free in
@@ -66,9 +66,9 @@ rowless-entered b e day r lines t q =
     ∙ judged-alike b q (r ∷ b .rules) (λ type sign. has-cons (ruleApplies b q type sign) r (b .rules) ∙ rw (no type sign))
     (λ type. rw (no type positive))
 
-pub rowless-deleted : RowlessDeleted
+pub without-rows-deleted : WithoutRowsDeleted
 unfolding conditions edited every deciding without
-rowless-deleted b n o s lines t q =
+without-rows-deleted b n o s lines t q =
     let (f, z, l) = accepted t in
     let none = command-not-refused b (deleteRule n o s) refl z 9 in
     let stays : (type sign : ℕ) (x : Rule) → ruleApplies b q type sign x ≡ true → not (isRule n o s x) ≡ true =
