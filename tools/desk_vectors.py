@@ -1,7 +1,9 @@
 #!/usr/bin/env python3
 """Writes what the gate runs the desk on: crates/desk/stdin, args, data/ and stdout. Standard input is the paper's
 example; each file of data/ is answered over a book emptied for it. The answers of vectors/ are an independent
-program's; those of edges.in are worked out from document 01, line by line below; lesson.in is docs/LESSON.md's."""
+program's; those of edges.in are worked out from document 01, line by line below; lesson.in is docs/LESSON.md's and
+examples.in is docs/LINES.md's."""
+from examples import pairs
 from output import plain
 
 DESK = "crates/desk"
@@ -39,14 +41,23 @@ def write(name, text):
     plain(f"{DESK}/{name}", text)
 
 
+def lesson(kind):
+    with open(f"docs/lesson.{kind}") as f:
+        return f.read().split("\n")[:-1]
+
+
+examples = pairs("docs/LINES.md")
+taught = pairs("docs/LESSON.md")
+assert taught == list(zip(lesson("lines"), lesson("answers"))), "docs/LESSON.md has other lines than docs/lesson.*"
 lines = list(edges())
 write("data/edges.in", b"\n".join(line for line, _ in lines))
 write("data/none.in", b"")
 for name in NAMES:
     write(f"data/{name}.in", vector(name, "in"))
-write("data/lesson.in", open("docs/lesson.lines", "rb").read())
+for name, text in (("lesson", taught), ("examples", examples)):
+    write(f"data/{name}.in", "".join(f"{line}\n" for line, _ in text).encode())
 write("stdin", vector("paper-example", "in"))
-write("args", "".join(f"{a}\n" for a in ["-", "edges.in", "none.in", "lesson.in"] + [f"{n}.in" for n in NAMES]).encode())
-answers = vector("paper-example", "out") + "".join(f"{a}\n" for _, a in lines).encode()
-answers += open("docs/lesson.answers", "rb").read()
-write("stdout", answers + b"".join(vector(n, "out") for n in NAMES))
+args = ["-", "edges.in", "none.in", "lesson.in", "examples.in"] + [f"{n}.in" for n in NAMES]
+write("args", "".join(f"{a}\n" for a in args).encode())
+answers = "".join(f"{a}\n" for text in (lines, taught, examples) for _, a in text).encode()
+write("stdout", vector("paper-example", "out") + answers + b"".join(vector(n, "out") for n in NAMES))

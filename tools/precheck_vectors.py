@@ -1,6 +1,6 @@
 #!/usr/bin/env python3
 """Writes stdin and stdout of crates/precheck_main: the paper's example (csd 2), the marked questions (csd 1), and the
-exercise of docs/PROOF.md (csd 3 and 4)."""
+exercise of docs/PROOF.md by both desks (csd 3 and 4)."""
 from output import plain
 
 lines, answers = [], []
@@ -8,7 +8,7 @@ for name in ("paper-example", "marked"):
     lines += open(f"vectors/{name}.in").read().split("\n")[:-1]
     answers += open(f"vectors/{name}.out").read().split("\n")[:-1]
 
-# A party hold, type 9: rule 5 holds FREE, the broader rule 7 holds DELI. What each answer must be is worked out in docs/PROOF.md.
+# A party hold, type 9: rule 5 holds FREE, the broader rule 7 holds DELI. docs/LESSON.md says why each answer is as it is.
 DAYS = "20170207,20991231"
 RULE5 = ["R,{c},20170206,9,1,5,P,4," + DAYS, "M,{c},20170206,9,1,5,,,FREE,,,,,,,"]
 RULE9 = [l.replace("9,1,5,", "9,1,9,") for l in RULE5]

@@ -1,4 +1,4 @@
-// A conventional restriction pre-check, written from document 01 and READINGS.md alone.
+// A conventional restriction pre-check, written from document 01 and the readings of docs/DECISIONS.md alone.
 // It shares no code with crates/ and nothing about it is proved. It is built by
 //     rustc -O --edition 2021 main.rs
 // and run as `conventional flat|maps < LINES`.

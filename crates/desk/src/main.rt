@@ -1,6 +1,7 @@
 // The desk program (document 01, 'The desk program'). Without an argument it answers standard input; with files, each
 // in turn over a book emptied for it, where '-' is standard input; with 'keler CSD DAY FIRST LAST' it prints the KELER
-// set. What it decides stands in proved functions on slices.
+// set. What it decides stands in proved functions on slices. The first failure of reading or writing is named on
+// standard error and ends the work.
 use libc::STDERR_FILENO;
 use libc::STDIN_FILENO;
 use libc::STDOUT_FILENO;
@@ -9,6 +10,53 @@ use places::SIZE;
 ghost use Prim.Native.Nat.{_+_, _≤_};
 ghost use lib.ListN.{length};
 
+// How the work ended, as a digit for descriptor 3: a program has no status of its own, and ./precheck reads it there.
+const DONE: u8 = b'0';
+
+const FAILED: u8 = b'1';
+
+const WRONG: u8 = b'2';
+
+const STATUS_FILENO: i32 = 3;
+
+// ---- Failures.
+
+// Names what failed, and why, on standard error.
+fn failed(what: &[u8]) -> u8 {
+    io::write_all(STDERR_FILENO, b"precheck: ");
+    os::fail(what);
+    FAILED
+}
+
+// Nobody reads a closed pipe any more, so it ends the work without a word.
+fn write_failed() -> u8 {
+    if os::errno() == libc::EPIPE {
+        return FAILED;
+    }
+    failed(b"writing to standard output")
+}
+
+// Writes to standard output.
+fn write_out(bytes: &[u8]) -> u8 {
+    if io::write_all(STDOUT_FILENO, bytes) {
+        return DONE;
+    }
+    write_failed()
+}
+
+// Some file systems tell only here that they could not keep what was written.
+fn close_out() -> u8 {
+    if libc::close(STDOUT_FILENO) == 0 {
+        return DONE;
+    }
+    write_failed()
+}
+
+fn wrong(text: &[u8]) -> u8 {
+    io::write_all(STDERR_FILENO, text);
+    WRONG
+}
+
 // ---- A text is read in pieces, and its lines are answered before more is waited for.
 
 // Space for a book; large arrays are made in functions of their own.
@@ -16,41 +64,73 @@ fn book_space() -> [u8; SIZE] {
     [0u8; SIZE]
 }
 
-// Answers ended lines of a text, as many as there is space for, and returns how many bytes of it were read.
-fn answer_some(book: &mut [u8], text: &[u8], out: &mut [u8]) -> usize
-    ensures { λ r. ⌜ r ≤ length (now (text .entry)) ⌝ }
+// What a step over a text leaves: a number of its bytes, and whether its answers were written.
+struct Step {
+    bytes: usize,
+    status: u8,
+}
+
+// Answers ended lines of a text, as many as there is space for, and says how many bytes of it were read.
+fn answer_some(book: &mut [u8], text: &[u8], out: &mut [u8]) -> Step
+    ensures { λ r. ⌜ r .bytes ≤ length (now (text .entry)) ⌝ }
 {
     let p = lines::submit_lines(book, text, out);
     let written = p.written;
-    io::write_all(STDOUT_FILENO, &out[..written]);
-    p.read
+    let status = write_out(&out[..written]);
+    Step {
+        bytes: p.read,
+        status: status,
+    }
 }
 
-// Answers the ended lines of the first n bytes of a text, and returns how many bytes of the begun line stand at its
-// front then.
-fn answer_text(book: &mut [u8], text: &mut [u8], n: usize, out: &mut [u8]) -> usize
+// Answers the ended lines of the first n bytes of a text, and says how many bytes of the begun line stand at its front
+// then.
+fn answer_text(book: &mut [u8], text: &mut [u8], n: usize, out: &mut [u8]) -> Step
     requires { ⌜ n ≤ length (now text) ⌝ }
-    ensures { λ r. ⌜ r ≤ 81 ⌝ }
+    ensures { λ r. ⌜ r .bytes ≤ 81 ⌝ }
 {
     let mut at: usize = 0;
     while at < n {
-        let read = answer_some(book, &text[at..n], out);
-        if read == 0 {
-            return lines::keep(text, at, n);
+        let step = answer_some(book, &text[at..n], out);
+        if step.status != DONE {
+            return Step {
+                bytes: 0,
+                status: step.status,
+            };
         }
-        at += read;
+        if step.bytes == 0 {
+            let held = lines::keep(text, at, n);
+            return Step {
+                bytes: held,
+                status: DONE,
+            };
+        }
+        at += step.bytes;
     }
-    0
+    Step {
+        bytes: 0,
+        status: DONE,
+    }
 }
 
-// Reads once behind the bytes held, and returns how many came.
-fn read_behind(fd: i32, text: &mut [u8], held: usize) -> usize
+// Reads once behind the bytes held, and says how many came.
+fn read_behind(fd: i32, name: &[u8], text: &mut [u8], held: usize) -> Step
     requires { ⌜ held ≤ length (now text) ⌝ }
-    ensures { λ r. ⌜ held + r ≤ length (now (text .exit)) ⌝ }
+    ensures { λ r. ⌜ held + r .bytes ≤ length (now (text .exit)) ⌝ }
 {
     let rest = &mut text[held..];
     let got = libc::read(fd, rest);
-    io::count(got, rest)
+    let came = io::count(got, rest);
+    if got < 0 {
+        return Step {
+            bytes: 0,
+            status: failed(name),
+        };
+    }
+    Step {
+        bytes: came,
+        status: DONE,
+    }
 }
 
 fn end_line(text: &mut [u8], held: usize)
@@ -60,55 +140,67 @@ fn end_line(text: &mut [u8], held: usize)
 }
 
 // The end of input ends the line that is begun, if there is one.
-fn answer_last(book: &mut [u8], text: &mut [u8], held: usize, out: &mut [u8])
+fn answer_last(book: &mut [u8], text: &mut [u8], held: usize, out: &mut [u8]) -> u8
     requires { ⌜ held + 1 ≤ length (now text) ⌝ }
 {
-    if held > 0 {
-        end_line(text, held);
-        answer_text(book, text, held + 1, out);
+    if held == 0 {
+        return DONE;
     }
+    end_line(text, held);
+    let last = answer_text(book, text, held + 1, out);
+    last.status
 }
 
-// Answers until the end of input. A proved loop has to end, so it counts its turns down from a number that no input
-// uses up.
-fn answer_all(fd: i32, book: &mut [u8], text: &mut [u8], out: &mut [u8])
+// Answers until the end of input or the first failure. A proved loop has to end, so it counts its turns down from a
+// number that no input uses up.
+fn answer_all(fd: i32, name: &[u8], book: &mut [u8], text: &mut [u8], out: &mut [u8]) -> u8
     requires { ⌜ 82 ≤ length (now text) ⌝ }
 {
     let mut held: usize = 0;
     let mut turns = u64::MAX;
     while turns > 0 {
-        let came = read_behind(fd, text, held);
-        if came == 0 {
-            answer_last(book, text, held, out);
-            return;
+        let piece = read_behind(fd, name, text, held);
+        if piece.status != DONE {
+            return piece.status;
         }
-        held = answer_text(book, text, held + came, out);
+        if piece.bytes == 0 {
+            return answer_last(book, text, held, out);
+        }
+        let begun = answer_text(book, text, held + piece.bytes, out);
+        if begun.status != DONE {
+            return begun.status;
+        }
+        held = begun.bytes;
         turns -= 1;
     }
+    FAILED
 }
 
 // Answers what a descriptor gives, over a book emptied for it.
-fn answer_input(fd: i32) {
+fn answer_input(fd: i32, name: &[u8]) -> u8 {
     let mut book = book_space();
     precheck::empty(&mut book);
     let mut text = io::large_buffer();
     let mut out = io::large_buffer();
-    answer_all(fd, &mut book, &mut text, &mut out);
+    answer_all(fd, name, &mut book, &mut text, &mut out)
+}
+
+fn answer_standard_input() -> u8 {
+    answer_input(STDIN_FILENO, b"standard input")
 }
 
 // Answers a file, or standard input for '-'.
-fn answer_file(path: &[u8]) {
+fn answer_file(path: &[u8]) -> u8 {
     if line::same(path, b"-") {
-        answer_input(STDIN_FILENO);
-        return;
+        return answer_standard_input();
     }
     let fd = os::open_read(path);
     if fd < 0 {
-        os::fail(path);
-        return;
+        return failed(path);
     }
-    answer_input(fd);
+    let status = answer_input(fd, path);
     libc::close(fd);
+    status
 }
 
 // ---- The KELER set, for the four arguments behind the word 'keler'.
@@ -152,42 +244,42 @@ fn type_line(line: &mut [u8]) -> usize
     add_argument(line, first, 5, b"")
 }
 
-fn wrong(text: &[u8]) -> bool {
-    io::write_all(STDERR_FILENO, text);
-    false
-}
-
 // Writes the first n bytes as a line.
-fn write_line(bytes: &[u8], n: usize) -> bool {
+fn write_line(bytes: &[u8], n: usize) -> u8 {
     if n > bytes.len() {
-        return false;
+        return FAILED;
     }
-    io::write_all(STDOUT_FILENO, &bytes[..n]);
-    io::write_all(STDOUT_FILENO, b"\n")
+    let status = write_out(&bytes[..n]);
+    if status != DONE {
+        return status;
+    }
+    write_out(b"\n")
 }
 
-// Prints a line of the set, and answers whether it was written.
-fn print_line(number: u32, v: [u32; 16], space: &mut [u8]) -> bool {
+// Prints a line of the set; no line has 5 or 6 bytes, which are refusals of the arguments.
+fn print_line(number: u32, v: [u32; 16], space: &mut [u8]) -> u8 {
     let n = keler::keler_line(number, v[0], v[1], v[5], v[6], space);
     if n == 5 {
         return wrong(
-            b"keler: CSD is 1 to 8, days are eight digits, FIRST is not after LAST (refusal 5)\n",
+            b"precheck: keler: CSD is 1 to 8, days are eight digits, FIRST is not after LAST (refusal 5)\n",
         );
     }
     if n == 6 {
-        return wrong(b"keler: FIRST is not later than DAY (refusal 6)\n");
+        return wrong(b"precheck: keler: FIRST is not later than DAY (refusal 6)\n");
     }
     write_line(space, n)
 }
 
-fn print_lines(v: [u32; 16], space: &mut [u8]) {
+fn print_lines(v: [u32; 16], space: &mut [u8]) -> u8 {
     let mut number = 1;
     while number <= 55 {
-        if !print_line(number, v, space) {
-            return;
+        let status = print_line(number, v, space);
+        if status != DONE {
+            return status;
         }
         number += 1;
     }
+    DONE
 }
 
 // The numbers of the arguments; zeros where they are not of their form, and keler_line refuses these.
@@ -197,31 +289,37 @@ fn arguments() -> Line {
     line::read_line(&space[..n])
 }
 
-fn print_set() {
+fn print_set() -> u8 {
     let l = arguments();
     let v = l.values;
     let mut space = [0u8; 80];
-    print_lines(v, &mut space);
+    print_lines(v, &mut space)
 }
 
 // ---- The arguments.
 
-fn usage() {
-    io::write_all(STDERR_FILENO, b"usage: desk [FILE..]\n");
-    io::write_all(STDERR_FILENO, b"       desk keler CSD DAY FIRST LAST\n");
+fn usage() -> u8 {
+    wrong(b"usage: desk [FILE..]\n       desk keler CSD DAY FIRST LAST\n")
 }
 
 // Answers the lines of the file that an argument names.
-fn answer_argument(i: usize) {
+fn answer_argument(i: usize) -> u8 {
     let mut path = io::buffer();
     let n = os::arg(i, &mut path);
-    answer_file(&path[..n]);
+    if os::errno() != 0 {
+        return failed(b"the name of a file");
+    }
+    answer_file(&path[..n])
 }
 
-fn answer_arguments(count: usize) {
+fn answer_arguments(count: usize) -> u8 {
     for i in 1..count {
-        answer_argument(i);
+        let status = answer_argument(i);
+        if status != DONE {
+            return status;
+        }
     }
+    DONE
 }
 
 // Whether the first argument is the word 'keler'.
@@ -231,23 +329,34 @@ fn is_keler() -> bool {
     line::same(&word[..n], b"keler")
 }
 
-fn with_arguments(count: usize) {
+fn with_arguments(count: usize) -> u8 {
     if !is_keler() {
-        answer_arguments(count);
-        return;
+        return answer_arguments(count);
     }
     if count == 6 {
-        print_set();
-    } else {
-        usage();
+        return print_set();
     }
+    usage()
+}
+
+fn work() -> u8 {
+    let count = os::arg_count();
+    if count <= 1 {
+        return answer_standard_input();
+    }
+    with_arguments(count)
+}
+
+// The status of the work, or of closing standard output after it.
+fn work_and_close() -> u8 {
+    let status = work();
+    if status != DONE {
+        return status;
+    }
+    close_out()
 }
 
 fn main() {
-    let count = os::arg_count();
-    if count <= 1 {
-        answer_input(STDIN_FILENO);
-        return;
-    }
-    with_arguments(count);
+    let status = work_and_close();
+    io::write_all(STATUS_FILENO, &[status]);
 }

@@ -16,3 +16,4 @@ pub mod Keler
 pub mod SameBook
 pub mod Nobody
 pub mod Exactly
+pub mod Exercise

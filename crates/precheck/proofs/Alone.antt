@@ -50,11 +50,15 @@ module _ (a : ℕ) (low : 1 ≤ a) (high : a ≤ 8) where
       rw (e, first) (ap (_∷_ (step m line .answer)) rest))
       (λ e. rw e (from r m (t .stays s) (same-then (loneBook a b′) (loneBook a b) m (other-after b b′ line e (t .records s a low high)) h)))
 
+-- what the lone book answers, which is empty at first
+lone-from : (a : ℕ) (lines : List (List ℕ)) → answersFrom M.empty (keep (names a) lines) ≡ loneAnswers a lines
+unfolding loneAnswers answers
+lone-from a lines = refl
+
 -- Demand 3.
 pub one-alone : OneAlone
-unfolding loneAnswers answers
 one-alone lent book e lines as′ r a low high =
-    from a low high r M.empty (emptied-sound lent book e) (same-books (emptied-lone lent book e a low))
+    from a low high r M.empty (emptied-sound lent book e) (same-books (emptied-lone lent book e a low)) ∙ lone-from a lines
 
 pub two-runs : TwoRuns
 unfolding loneAnswers

@@ -15,7 +15,13 @@ take-spec =
     (λ c. search needs)
     (λ c κs. search needs)
     (λ c. search needs)
-    (λ c. search (took-question, question-of))
+    (λ c.
+    let asked = c .before .before .before in
+    let unrefused = asked .before .before in
+    took-question _ _ _ (unrefused .if1 .left) (unrefused .before .refusal .ensures .0) _ (c .judge .result)
+    (search question-of)
+    (c .judge .ensures .0)
+    (c .judge .ensures .1))
     (λ c κs. search needs)
     (λ c. search needs)
     (λ c. search (took-edit, not-asked)))

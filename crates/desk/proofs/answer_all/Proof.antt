@@ -8,11 +8,10 @@ use Rattle.desk.proofs.answer_all.Statement.{statement}
 use Rattle.desk.proofs.answer_all.Tie as tie
 
 abbrev Inv-loop : tie.InvT-loop
-Inv-loop fd book₀ text₀ out₀ held₀ turns₀ book text out held turns =
-    (held ≤ 81) × (length book ≡ length book₀) × (length text ≡ length text₀) × (length out ≡ length out₀)
+Inv-loop fd name book₀ text₀ out₀ held₀ turns₀ book text out held turns = (held ≤ 81) × (length book ≡ length book₀) × (length text ≡ length text₀) × (length out ≡ length out₀)
 
 abbrev μ-loop : tie.MeasureT-loop
-μ-loop fd book₀ text₀ out₀ held₀ turns₀ book text out held turns = turns
+μ-loop fd name book₀ text₀ out₀ held₀ turns₀ book text out held turns = turns
 
 pub answer-all-spec : {M : Type 1} → statement M
 answer-all-spec =
@@ -22,6 +21,10 @@ answer-all-spec =
     μ-loop
     (λ c. search needs)
     (λ c κs. search needs)
+    (λ c. search needs)
+    (λ c. search needs)
+    (λ c. search needs)
+    (λ c. search needs)
     (λ c κs. search needs)
     (λ c. search needs)
     (λ c. search needs)
@@ -29,6 +32,10 @@ answer-all-spec =
     (λ c. search needs)
     (λ c. search needs)
     (λ c κs. search needs)
+    (λ c. search needs)
+    (λ c. search needs)
+    (λ c. search needs)
+    (λ c. search needs)
     (λ c. search needs)
     (λ c. search needs)
     (λ c. search needs)

@@ -21,4 +21,5 @@ answer-arguments-spec =
     (λ c. search needs)
     (λ c. search needs)
     (λ c. search needs)
+    (λ c. search needs)
     (λ c. search needs))

@@ -14,5 +14,6 @@ write-line-spec =
     (λ c. sym (length-take-le _ _ (omega arith)))
     (λ c κs. search needs)
     (λ c. search needs)
+    (λ c. search needs)
     (λ c κs. search needs)
     (λ c. search needs))
