@@ -249,7 +249,7 @@ fn print_line(number: u32, v: [u32; 16], space: &mut [u8]) -> u8 {
     let n = keler::keler_line(number, v[0], v[1], v[5], v[6], space);
     if n == 5 {
         return wrong(
-            b"precheck: keler: CSD is 1 to 8, days are eight digits, FIRST is not after LAST (refusal 5)\n",
+            b"precheck: keler: CSD is 1 to 8, days are dates such as 20170206, FIRST is not after LAST (refusal 5)\n",
         );
     }
     if n == 6 {
