@@ -6,9 +6,12 @@ use libc::STDERR_FILENO;
 use libc::STDIN_FILENO;
 use libc::STDOUT_FILENO;
 use line::Line;
+use lines::Desk;
 use places::SIZE;
-ghost use Prim.Native.Nat.{_+_, _≤_};
+ghost use Prim.Native.Nat.{_+_, _*_, _≤_};
+ghost use mathlib.Core.Path.{_≡_};
 ghost use lib.ListN.{length};
+ghost use Rattle.desk.specs.Loop.{Behind, Hands, Ends, Input};
 
 // How the work ended, as a digit for descriptor 3: a program has no status of its own, and ./precheck reads it there.
 const DONE: u8 = b'0';
@@ -18,6 +21,11 @@ const FAILED: u8 = b'1';
 const WRONG: u8 = b'2';
 
 const STATUS_FILENO: i32 = 3;
+
+// The text space: what is held and a piece. The answers to a text take at most 33 bytes for each of its bytes.
+const TEXT: usize = 8192;
+
+const ANSWERS: usize = 270336;
 
 // ---- Failures.
 
@@ -59,118 +67,98 @@ fn wrong(text: &[u8]) -> u8 {
 
 // ---- A text is read in pieces, and its lines are answered before more is waited for.
 
-// Space for a book; large arrays are made in functions of their own.
+// Space for a book, for a text and for the answers to it; large arrays are made in functions of their own.
 fn book_space() -> [u8; SIZE] {
     [0u8; SIZE]
 }
 
-// What a step over a text leaves: a number of its bytes, and whether its answers were written.
-struct Step {
+fn text_space() -> [u8; TEXT] {
+    [0u8; TEXT]
+}
+
+fn answer_space() -> [u8; ANSWERS] {
+    [0u8; ANSWERS]
+}
+
+// What a read gave: how many bytes came, and whether it failed.
+struct Reading {
     bytes: usize,
     status: u8,
 }
 
-// Answers ended lines of a text, as many as there is space for, and says how many bytes of it were read.
-fn answer_some(book: &mut [u8], text: &[u8], out: &mut [u8]) -> Step
-    ensures { λ r. ⌜ r .bytes ≤ length (now (text .entry)) ⌝ }
-{
-    let p = lines::submit_lines(book, text, out);
-    let written = p.written;
-    let status = write_out(&out[..written]);
-    Step {
-        bytes: p.read,
-        status: status,
-    }
-}
-
-// Answers the ended lines of the first n bytes of a text, and says how many bytes of the begun line stand at its front
-// then.
-fn answer_text(book: &mut [u8], text: &mut [u8], n: usize, out: &mut [u8]) -> Step
-    requires { ⌜ n ≤ length (now text) ⌝ }
-    ensures { λ r. ⌜ r .bytes ≤ 81 ⌝ }
-{
-    let mut at: usize = 0;
-    while at < n {
-        let step = answer_some(book, &text[at..n], out);
-        if step.status != DONE {
-            return Step {
-                bytes: 0,
-                status: step.status,
-            };
-        }
-        if step.bytes == 0 {
-            let held = lines::keep(text, at, n);
-            return Step {
-                bytes: held,
-                status: DONE,
-            };
-        }
-        at += step.bytes;
-    }
-    Step {
-        bytes: 0,
-        status: DONE,
-    }
-}
-
-// Reads once behind the bytes held, and says how many came.
-fn read_behind(fd: i32, name: &[u8], text: &mut [u8], held: usize) -> Step
+// Reads once behind the bytes held.
+fn read_behind(fd: i32, name: &[u8], text: &mut [u8], held: usize) -> Reading
     requires { ⌜ held ≤ length (now text) ⌝ }
-    ensures { λ r. ⌜ held + r .bytes ≤ length (now (text .exit)) ⌝ }
+    ensures { λ r. ⌜ Behind held (now (text .entry)) (r .bytes) (now (text .exit)) ⌝ }
 {
     let rest = &mut text[held..];
     let got = libc::read(fd, rest);
     let came = io::count(got, rest);
     if got < 0 {
-        return Step {
+        return Reading {
             bytes: 0,
             status: failed(name),
         };
     }
-    Step {
+    Reading {
         bytes: came,
         status: DONE,
     }
 }
 
-fn end_line(text: &mut [u8], held: usize)
-    requires { ⌜ held + 1 ≤ length (now text) ⌝ }
-{
-    text[held] = b'\n';
+// What a piece leaves: the desk, and whether its answers were written.
+struct Step {
+    desk: Desk,
+    status: u8,
 }
 
-// The end of input ends the line that is begun, if there is one.
-fn answer_last(book: &mut [u8], text: &mut [u8], held: usize, out: &mut [u8]) -> u8
-    requires { ⌜ held + 1 ≤ length (now text) ⌝ }
+// A piece came behind the bytes held: the lines that are ended now are answered.
+fn answer_piece(desk: Desk, came: usize, book: &mut [u8], text: &mut [u8], out: &mut [u8]) -> Step
+    requires { ⌜ 33 * length (now text) ≤ length (now out) ⌝ }
+    ensures { λ r. ⌜ Hands desk came (now (book .entry)) (now (text .entry)) (r .desk) (now (book .exit)) (now (text .exit)) ⌝ }
 {
-    if held == 0 {
-        return DONE;
+    let step = lines::answer_piece(desk, came, book, text, out);
+    let written = step.written;
+    let status = write_out(&out[..written]);
+    let after = step.desk;
+    Step {
+        desk: after,
+        status: status,
     }
-    end_line(text, held);
-    let last = answer_text(book, text, held + 1, out);
-    last.status
+}
+
+// The end of input: the line that is begun is answered, if there is one.
+fn answer_end(desk: Desk, book: &mut [u8], text: &[u8], out: &mut [u8]) -> u8
+    requires { ⌜ 33 * length (now text) ≤ length (now out) ⌝ }
+    ensures { λ _. ⌜ Ends desk (now (book .entry)) (now (text .entry)) (now (book .exit)) ⌝ }
+{
+    let step = lines::answer_end(desk, book, text, out);
+    let written = step.written;
+    write_out(&out[..written])
 }
 
 // Answers until the end of input or the first failure. A proved loop has to end, so it counts its turns down from a
 // number that no input uses up.
 fn answer_all(fd: i32, name: &[u8], book: &mut [u8], text: &mut [u8], out: &mut [u8]) -> u8
     requires { ⌜ 82 ≤ length (now text) ⌝ }
+    requires { ⌜ 33 * length (now text) ≤ length (now out) ⌝ }
+    ensures { λ r. ⌜ (r ≡ 48 → Input (now (book .entry)) (now (text .entry)) (now (book .exit))) ⌝ }
 {
-    let mut held: usize = 0;
+    let mut desk = lines::begin(book);
     let mut turns = u64::MAX;
     while turns > 0 {
-        let piece = read_behind(fd, name, text, held);
+        let piece = read_behind(fd, name, text, desk.held);
         if piece.status != DONE {
             return piece.status;
         }
         if piece.bytes == 0 {
-            return answer_last(book, text, held, out);
+            return answer_end(desk, book, text, out);
         }
-        let begun = answer_text(book, text, held + piece.bytes, out);
-        if begun.status != DONE {
-            return begun.status;
+        let step = answer_piece(desk, piece.bytes, book, text, out);
+        if step.status != DONE {
+            return step.status;
         }
-        held = begun.bytes;
+        desk = step.desk;
         turns -= 1;
     }
     FAILED
@@ -180,8 +168,8 @@ fn answer_all(fd: i32, name: &[u8], book: &mut [u8], text: &mut [u8], out: &mut 
 fn answer_input(fd: i32, name: &[u8]) -> u8 {
     let mut book = book_space();
     precheck::empty(&mut book);
-    let mut text = io::large_buffer();
-    let mut out = io::large_buffer();
+    let mut text = text_space();
+    let mut out = answer_space();
     answer_all(fd, name, &mut book, &mut text, &mut out)
 }
 
@@ -261,7 +249,7 @@ fn print_line(number: u32, v: [u32; 16], space: &mut [u8]) -> u8 {
     let n = keler::keler_line(number, v[0], v[1], v[5], v[6], space);
     if n == 5 {
         return wrong(
-            b"precheck: keler: CSD is 1 to 8, days are eight digits, FIRST is not after LAST (refusal 5)\n",
+            b"precheck: keler: CSD is 1 to 8, days are dates such as 20170206, FIRST is not after LAST (refusal 5)\n",
         );
     }
     if n == 6 {

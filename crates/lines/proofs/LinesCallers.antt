@@ -1,11 +1,20 @@
--- What a caller of `submit_lines` uses to lend the answers on.
-use Prim.Native.Nat.{ℕ}
-use mathlib.Core.Path.{_≡_, sym}
+-- What a caller of the desk's functions uses.
+use Prim.Native.Nat.{ℕ, _+_, _*_, _≤_}
+use mathlib.Core.Path.{_≡_, sym, _∙_}
+use mathlib.Core.Bool.{true}
 use mathlib.Core.List.{List}
-use lib.ListN.{length, take}
+use native.Mathlib.Omega.{arith}
+use lib.ListN.{length, take, length-take}
 use lib.Seq.{length-take-le}
-use Rattle.lines.specs.Many.{Answered}
-use Rattle.lines.specs.declared.Progress.{Progress}
+use borrow.Author.Tests.{le-leb}
+use Rattle.lines.specs.Pieces.{Steps}
+use Rattle.lines.specs.declared.Desk.{Desk}
+use Rattle.lines.specs.declared.Step.{Step}
 
-pub counted : {before text out after out′ : List ℕ} {r : Progress} → Answered before text out r after out′ → r .written ≡ length (take (r .written) out′)
-counted {out′ = out′} {r = r} a = sym (length-take-le (r .written) out′ (a .few))
+module _ {stands kept b t o b′ t′ o′ : List ℕ} {lines : List (List ℕ)} {d : Desk} {r : Step} (s : Steps stands lines kept d b t o r b′ t′ o′) where
+  -- to lend the answers on
+  pub counted : r .written ≡ length (take (r .written) o′)
+  counted = sym (length-take-le (r .written) o′ (s .few))
+
+  pub has-room : 33 * length stands ≤ length o → r .room ≡ true
+  has-room h = s .room ∙ le-leb (33 * length stands) (length o) h

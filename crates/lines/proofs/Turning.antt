@@ -1,5 +1,5 @@
 -- One line answered, and line after line.
-use Prim.Native.Nat.{ℕ, suc, _+_, _-_, _≤_, _<_}
+use Prim.Native.Nat.{ℕ, suc, _+_, _-_, _*_, _≤_, _<_}
 use mathlib.Core.Path.{_≡_, refl, sym, ap, _∙_}
 use mathlib.Core.Bool.{Bool, true, false}
 use mathlib.Core.List.{List, [], _∷_, _++_}
@@ -8,18 +8,16 @@ use lib.Dec.{leb}
 use lib.ListN.{length, set, take, drop, length-set, length-drop, length-append}
 use lib.Seq.{paste, paste-suc, length-take-le, take-length, take-append-seam, getD-append-seam}
 use borrow.Author.Tests.{leb-true, lt-ltb}
-use Rattle.tables.proofs.Counts.{cases}
 use Rattle.meaning.specs.Text.{place}
 use Rattle.meaning.specs.Printing.{printed}
 use Rattle.meaning.specs.declared.Answer.{Answer}
-use Rattle.book.specs.Sound.{sound}
 use Rattle.text.specs.Parts.{spanFrom, Splits}
 use Rattle.text.specs.Printed.{Prints}
 use Rattle.text.specs.declared.lines.Span.{Span}
 use Rattle.writing.specs.declared.bytes.Written.{Written}
-use Rattle.answering.specs.Taking.{bytesBy, Answers}
+use Rattle.answering.specs.Taking.{Answers}
 use Rattle.lines.specs.Ended.{ended}
-use Rattle.lines.specs.Many.{laid, writtenAs, Standing, room, one, many, standing, Put, Turn, Answered}
+use Rattle.lines.specs.Many.{laid, writtenAs, Standing, room, one, many, standing, Put, Turn, AnsweredBy}
 use Rattle.lines.proofs.Ending.{ended-next, ended-none}
 
 -- ---- an answer written
@@ -55,20 +53,18 @@ put o o′ at a p i e h z =
       whole = rw (e, i .text, ← n) (laid-more o (printed a) at 10 (omega (arith, n, i .few)));
       next = omega (arith, n, m);
       few = rw length-set (omega (arith, z, i .few));
+      narrow = omega (arith, i .few);
     }
 
 -- ---- one line
 
 module _ (b b′ line o o′ : List ℕ) (s : Bool) (at r : ℕ) (x : Answer) where
   pub turned : Answers s b line x b′ → Put o at x r o′ → Turn s b line o at r b′ o′
-  unfolding one bytesBy
+  unfolding one
   turned a p = record {
-    turned = λ e k. rw (← e, ← a .answered, ← a .bytes, ← p .whole, ← p .next);
-    stays = λ e.
-        cases s
-        (λ t. t ∙ sym (a .promise e .stays (sym e ∙ t)))
-        (λ t. let q : b′ ≡ b = a .bytes ∙ ap (λ z. bytesBy z b line) t in rw q e);
+    turned = λ k. rw (← a .answered, ← a .bytes, ← p .whole, ← p .next);
     few = p .few;
+    narrow = p .narrow;
   }
 
 -- ---- line after line
@@ -80,38 +76,40 @@ room-for n m e f = leb-true n m (sym e ∙ f)
 pub comes-nearer : {text : List ℕ} {at : ℕ} {l : Span} → Splits text at l → l .end < length text → length text - l .next < length text - at
 comes-nearer {text} {at} p h = omega (arith, p .from, p .onward, p .later (omega (arith, p .from)))
 
-many-full : (ls : List (List ℕ)) (z : Standing) → room z ≡ false → many ls z ≡ z
-unfolding many
-many-full [] z e = refl
-many-full (l ∷ ls) z e = rw e
+module _ (s : Bool) where
+  many-full : (ls : List (List ℕ)) (z : Standing) → room z ≡ false → many s ls z ≡ z
+  unfolding many
+  many-full [] z e = refl
+  many-full (l ∷ ls) z e = rw e
 
-many-next : (l : List ℕ) (ls : List (List ℕ)) (z : Standing) → room z ≡ true → many (l ∷ ls) z ≡ many ls (one z l)
-unfolding many
-many-next l ls z e = rw e
+  many-next : (l : List ℕ) (ls : List (List ℕ)) (z : Standing) → room z ≡ true → many s (l ∷ ls) z ≡ many s ls (one s z l)
+  unfolding many
+  many-next l ls z e = rw e
 
 -- what is left, answered from here on, gives the whole
 pub record Going (b₀ text o₀ : List ℕ) (s : Bool) (b o : List ℕ) (read written : ℕ) : Type 0 where
-  pub left : many (ended (drop read text)) (standing b o read written) ≡ many (ended text) (standing b₀ o₀ 0 0)
-  pub known : s ≡ sound b
+  pub left : many s (ended (drop read text)) (standing b o read written) ≡ many s (ended text) (standing b₀ o₀ 0 0)
   pub inside : read ≤ length text
   pub few : written ≤ length o
+  pub narrow : written ≤ 33 * read
   pub book-size : length b ≡ length b₀
   pub out-size : length o ≡ length o₀
 
 module _ {b₀ text o₀ : List ℕ} {s : Bool} where
-  pub going-first : s ≡ sound b₀ → Going b₀ text o₀ s b₀ o₀ 0 0
-  going-first e = record { left = refl; known = e; inside = omega arith; few = omega arith; book-size = refl; out-size = refl }
+  pub going-first : Going b₀ text o₀ s b₀ o₀ 0 0
+  going-first = record { left = refl; inside = omega arith; few = omega arith; narrow = omega arith; book-size = refl; out-size = refl }
 
   module _ {b o : List ℕ} {read written : ℕ} (g : Going b₀ text o₀ s b o read written) where
-    pub going-full : {t : Bool} → t ≡ leb (written + 33) (length o) → t ≡ false → Answered b₀ text o₀ (record { read = read; written = written }) b o
-    unfolding many
-    going-full e f = record { whole = sym (many-full (ended (drop read text)) (standing b o read written) (sym e ∙ f)) ∙ g .left; inside = g .inside; few = g .few }
+    came-to : many s (ended (drop read text)) (standing b o read written) ≡ standing b o read written
+        → AnsweredBy s b₀ text o₀ (record { read = read; written = written }) b o
+    came-to e = record { whole = sym e ∙ g .left; inside = g .inside; few = g .few; narrow = g .narrow }
 
-    pub going-out : {l : Span} → Splits text read l → length text ≤ l .end → Answered b₀ text o₀ (record { read = read; written = written }) b o
+    pub going-full : {t : Bool} → t ≡ leb (written + 33) (length o) → t ≡ false → AnsweredBy s b₀ text o₀ (record { read = read; written = written }) b o
+    going-full e f = came-to (many-full s (ended (drop read text)) (standing b o read written) (sym e ∙ f))
+
+    pub going-out : {l : Span} → Splits text read l → length text ≤ l .end → AnsweredBy s b₀ text o₀ (record { read = read; written = written }) b o
     unfolding many spanFrom
-    going-out {l} p h =
-        let e : l .end ≡ _ = ap (λ z. z .end) (p .whole) in
-        record { whole = rw (ended-none text read (l .end) e h) at (g .left); inside = g .inside; few = g .few }
+    going-out {l} p h = came-to (rw (ended-none text read (l .end) (ap (λ z. z .end) (p .whole)) h))
 
     pub going-on : {t : Bool} {l : Span} {b′ o′ : List ℕ} {r : ℕ} → t ≡ leb (written + 33) (length o) → t ≡ true → Splits text read l → l .end < length text
         → Turn s b (take (l .end - read) (drop read text)) o written r b′ o′ → length b′ ≡ length b → length o′ ≡ length o → Going b₀ text o₀ s b′ o′ (l .next) r
@@ -122,17 +120,17 @@ module _ {b₀ text o₀ : List ℕ} {s : Bool} where
         let line = take (l .end - read) (drop read text) in
         let n : length line ≡ l .end - read = length-take-le (l .end - read) (drop read text) (omega (arith, length-drop read text)) in
         let v : read + (length line + 1) ≡ l .next = omega (arith, n, w, p .from) in
-        let q : one (standing b o read written) line ≡ standing b′ o′ (l .next) r = u .turned (g .known) read ∙ ap (λ k. standing b′ o′ k r) v in
+        let q : one s (standing b o read written) line ≡ standing b′ o′ (l .next) r = u .turned read ∙ ap (λ k. standing b′ o′ k r) v in
         record {
           left =
-              ap (λ k. many (ended (drop k text)) (standing b′ o′ (l .next) r)) w
-              ∙ ap (many (ended (drop (l .end + 1) text))) (sym q)
-              ∙ sym (many-next line (ended (drop (l .end + 1) text)) (standing b o read written) (sym e ∙ f))
-              ∙ ap (λ ls. many ls (standing b o read written)) (sym (ended-next text read (l .end) x h))
+              ap (λ k. many s (ended (drop k text)) (standing b′ o′ (l .next) r)) w
+              ∙ ap (many s (ended (drop (l .end + 1) text))) (sym q)
+              ∙ sym (many-next s line (ended (drop (l .end + 1) text)) (standing b o read written) (sym e ∙ f))
+              ∙ ap (λ ls. many s ls (standing b o read written)) (sym (ended-next text read (l .end) x h))
               ∙ g .left;
-          known = u .stays (g .known);
           inside = omega (arith, w);
           few = u .few;
+          narrow = omega (arith, w, p .from, g .narrow, u .narrow);
           book-size = y ∙ g .book-size;
           out-size = z ∙ g .out-size;
         }

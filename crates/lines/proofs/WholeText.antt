@@ -1,101 +1,33 @@
 -- A text that is read in pieces is answered as if it had come whole.
-use Prim.Native.Nat.{ℕ, zero, suc, _≤_, _<_}
+use Prim.Native.Nat.{ℕ, zero, suc, _+_, _*_, _≤_}
 use mathlib.Core.Path.{_≡_, refl, sym, ap, _∙_}
-use mathlib.Core.Bool.{Bool, true, false, _||_, cond, false≢true}
+use mathlib.Core.Bool.{Bool, true, false, cond}
 use mathlib.Core.List.{List, [], _∷_, _++_, map, append-assoc, append-nil, map-append}
 use native.Mathlib.Omega.{arith}
-use lib.Dec.{eqb, leb}
-use lib.ListN.{length, take}
-use lib.Seq.{take-all, take-take, length-take-le}
+use native.Mathlib.Nat.{add-zero}
+use lib.Dec.{leb}
+use lib.ListN.{length, take, drop}
+use lib.Seq.{take-all, take-at, take-take, length-take-le}
 use borrow.Author.Tests.{leb-true, leb-false, lt-leb}
 use Rattle.tables.specs.Count.{has}
 use Rattle.tables.proofs.Counts.{cases}
-use Rattle.tables.proofs.Lists.{has-cons}
-use Rattle.meaning.specs.Fields.{before, wellMade}
+use Rattle.meaning.specs.Fields.{wellMade}
 use Rattle.meaning.specs.Reading.{numbersRead}
-use Rattle.meaning.specs.Desk.{linesOf}
+use Rattle.meaning.specs.Printing.{printed}
+use Rattle.meaning.specs.Desk.{linesOf, output}
+use Rattle.meaning.specs.declared.Answer.{Answer}
+use Rattle.book.specs.Sound.{sound}
+use Rattle.precheck.specs.Alone.{Run, done}
 use Rattle.answering.specs.Taking.{answerBy, bytesBy}
-use Rattle.lines.specs.Ended.{inFront, ended, begun, short}
-use Rattle.lines.specs.Many.{answerTo, bytesAfter}
-use Rattle.lines.specs.Whole.{answersOf, bookAfter, linesIn, joined, Whole}
-
-abbrev isEnd : ℕ → Bool
-isEnd d = eqb d 10
-
--- no byte ends a line
-abbrev Open : List ℕ → Type 0
-Open h = has isEnd h ≡ false
-
-or-left : (a b : Bool) → (a || b) ≡ false → a ≡ false
-or-left true b e = e
-or-left false b e = refl
-
-or-right : (a b : Bool) → (a || b) ≡ false → b ≡ false
-or-right true b e = absurd (false≢true (sym e))
-or-right false b e = e
-
-module _ (c : ℕ) (cs : List ℕ) where
-  open-first : Open (c ∷ cs) → isEnd c ≡ false
-  open-first e = or-left (isEnd c) (has isEnd cs) (sym (has-cons isEnd c cs) ∙ e)
-
-  open-rest : Open (c ∷ cs) → Open cs
-  open-rest e = or-right (isEnd c) (has isEnd cs) (sym (has-cons isEnd c cs) ∙ e)
-
-  open-cons : isEnd c ≡ false → has isEnd (c ∷ cs) ≡ has isEnd cs
-  open-cons e = has-cons isEnd c cs ∙ ap (λ z. z || has isEnd cs) e
-
-open-none : Open []
-unfolding has
-open-none = refl
-
-has-behind : (h p : List ℕ) → Open h → has isEnd (h ++ p) ≡ has isEnd p
-has-behind [] p e = refl
-has-behind (c ∷ cs) p e = open-cons c (cs ++ p) (open-first c cs e) ∙ has-behind cs p (open-rest c cs e)
-
-open-take : (n : ℕ) (h : List ℕ) → Open h → Open (take n h)
-open-take zero h e = open-none
-open-take (suc n) [] e = open-none
-open-take (suc n) (c ∷ cs) e = open-cons c (take n cs) (open-first c cs e) ∙ open-take n cs (open-rest c cs e)
-
--- ---- the lines of two texts, one behind the other
-
-none-ended : (cs : List ℕ) → Open cs → ended cs ≡ []
-unfolding ended
-none-ended [] e = refl
-none-ended (c ∷ cs) e = rw (open-first c cs e, none-ended cs (open-rest c cs e))
-
-some-front : (c : ℕ) (t : Bool) (ls : List (List ℕ)) → 0 < length ls → 0 < length (inFront t c ls)
-some-front c true ls h = omega arith
-some-front c false [] h = h
-some-front c false (l ∷ ls) h = omega arith
-
-some-ended : (cs : List ℕ) → has isEnd cs ≡ true → 0 < length (ended cs)
-unfolding ended
-some-ended [] e = absurd (false≢true (sym open-none ∙ e))
-some-ended (c ∷ cs) e =
-    cases (isEnd c)
-    (λ t. rw t (omega arith))
-    (λ t. rw t (some-front c false (ended cs) (some-ended cs (sym (open-cons c cs t) ∙ e))))
-
-front : (c : ℕ) (ls ms : List (List ℕ)) → 0 < length ls → before false c (ls ++ ms) ≡ inFront false c ls ++ ms
-front c [] ms h = absurd (omega arith)
-front c (l ∷ ls) ms h = refl
-
-begun-open : (t : List ℕ) → Open (begun t)
-unfolding begun
-begun-open [] = open-none
-begun-open (c ∷ cs) = cases (has isEnd (c ∷ cs)) (λ e. rw e (begun-open cs)) (λ e. rw e e)
-
-lines-behind : (t u : List ℕ) → linesOf (t ++ u) ≡ ended t ++ linesOf (begun t ++ u)
-unfolding linesOf ended begun
-lines-behind [] u = refl
-lines-behind (c ∷ cs) u =
-    cases (isEnd c)
-    (λ e. rw (has-cons isEnd c cs, e, lines-behind cs u))
-    (λ e.
-    cases (has isEnd cs)
-    (λ s. rw (open-cons c cs e, s, e, lines-behind cs u) (front c (ended cs) (linesOf (begun cs ++ u)) (some-ended cs s)))
-    (λ s. rw (open-cons c cs e, s, e, none-ended cs s)))
+use Rattle.precheck.proofs.Alone.{one-alone}
+use Rattle.lines.specs.Ended.{inFront, ended, begun, lastLine, short}
+use Rattle.lines.specs.Many.{answersBy, bookBy, answersOf, laid, writtenAs}
+use Rattle.lines.specs.Pieces.{Steps}
+use Rattle.lines.specs.Whole.{Fed, last, more, joined, Whole, DeskAlone}
+use Rattle.lines.specs.declared.Desk.{Desk}
+use Rattle.lines.specs.declared.Step.{Step}
+use Rattle.lines.proofs.BegunLine.{isEnd, Open, open-first, open-rest, open-none, has-behind, open-take, begun-open, lines-behind}
+use Rattle.lines.proofs.Steps.{submits, output-more}
 
 -- ---- a begun line in front of a piece
 
@@ -157,23 +89,25 @@ cut-begun h p e =
     (cases (has isEnd p) (λ s. rw s) (λ s. rw s (take-onto 81 h p)))
 
 -- a text without byte 10 is one line, if it has a byte
-lone : List ℕ → List (List ℕ)
-lone [] = []
-lone (c ∷ cs) = (c ∷ cs) ∷ []
-
-lines-open : (h : List ℕ) → Open h → linesOf h ≡ lone h
-unfolding linesOf lone
+lines-open : (h : List ℕ) → Open h → linesOf h ≡ lastLine h
+unfolding linesOf lastLine
 lines-open [] e = refl
 lines-open (c ∷ []) e = rw (open-first c [] e)
 lines-open (c ∷ d ∷ cs) e = rw (open-first c (d ∷ cs) e, lines-open (d ∷ cs) (open-rest c (d ∷ cs) e))
 
-cut-lone : (h : List ℕ) → cut (lone (short h)) ≡ cut (lone h)
-unfolding cut lone
+cut-lone : (h : List ℕ) → cut (lastLine (short h)) ≡ cut (lastLine h)
+unfolding cut lastLine
 cut-lone [] = refl
 cut-lone (c ∷ cs) = ap (λ z. (c ∷ z) ∷ []) (take-take 80 80 cs (omega arith))
 
-cut-last : (h : List ℕ) → Open h → cut (linesOf (short h)) ≡ cut (linesOf h)
-cut-last h e = rw (lines-open h e, lines-open (short h) (open-take 81 h e)) (cut-lone h)
+cut-last : (h : List ℕ) → Open h → cut (lastLine (short h)) ≡ cut (linesOf h)
+cut-last h e = rw (lines-open h e) (cut-lone h)
+
+-- the lines that are answered, from the begun line that is held and the pieces that come: after each piece those that
+-- are ended, and at the end of input the line that is begun, if there is one
+linesIn : List ℕ → List (List ℕ) → List (List ℕ)
+linesIn held [] = lastLine held
+linesIn held (piece ∷ pieces) = ended (held ++ piece) ++ linesIn (short (begun (held ++ piece))) pieces
 
 cut-both : (ls ms : List (List ℕ)) → cut (ls ++ ms) ≡ cut ls ++ cut ms
 unfolding cut
@@ -202,29 +136,121 @@ numbers-cut l =
     let h = leb-false (length l) 81 e in
     rw (long l (omega arith), long (short l) (omega (arith, length-take-le 81 l (omega arith)))))
 
-module _ (b l : List ℕ) where
-  answer-cut : answerTo b (short l) ≡ answerTo b l
-  unfolding answerBy
-  answer-cut = rw (numbers-cut l)
+module _ (s : Bool) where
+  answers-cut : (b : List ℕ) (ls : List (List ℕ)) → answersBy s b (cut ls) ≡ answersBy s b ls
+  unfolding answersBy cut answerBy bytesBy
+  answers-cut b [] = refl
+  answers-cut b (l ∷ ls) = rw (numbers-cut l, answers-cut (bytesBy s b l) ls)
 
-  bytes-cut : bytesAfter b (short l) ≡ bytesAfter b l
+  bytes-cut : (b l : List ℕ) → bytesBy s b (short l) ≡ bytesBy s b l
   unfolding bytesBy
-  bytes-cut = rw (numbers-cut l)
+  bytes-cut b l = rw (numbers-cut l)
 
-answers-cut : (b : List ℕ) (ls : List (List ℕ)) → answersOf b (cut ls) ≡ answersOf b ls
-unfolding answersOf cut
-answers-cut b [] = refl
-answers-cut b (l ∷ ls) = rw (answer-cut b l, bytes-cut b l, answers-cut (bytesAfter b l) ls)
+  book-cut : (b : List ℕ) (ls : List (List ℕ)) → bookBy s b (cut ls) ≡ bookBy s b ls
+  unfolding bookBy cut
+  book-cut b [] = refl
+  book-cut b (l ∷ ls) = ap (λ z. bookBy s z (map short ls)) (bytes-cut b l) ∙ book-cut (bytesBy s b l) ls
 
-book-cut : (b : List ℕ) (ls : List (List ℕ)) → bookAfter b (cut ls) ≡ bookAfter b ls
-unfolding bookAfter cut
-book-cut b [] = refl
-book-cut b (l ∷ ls) = ap (λ z. bookAfter z (map short ls)) (bytes-cut b l) ∙ book-cut (bytesAfter b l) ls
+  -- ---- lines one behind the other
+
+  answers-both : (b : List ℕ) (ls ms : List (List ℕ)) → answersBy s b (ls ++ ms) ≡ answersBy s b ls ++ answersBy s (bookBy s b ls) ms
+  unfolding answersBy bookBy
+  answers-both b [] ms = refl
+  answers-both b (l ∷ ls) ms = ap (λ z. answerBy s b l ∷ z) (answers-both (bytesBy s b l) ls ms)
+
+  book-both : (b : List ℕ) (ls ms : List (List ℕ)) → bookBy s b (ls ++ ms) ≡ bookBy s (bookBy s b ls) ms
+  unfolding bookBy
+  book-both b [] ms = refl
+  book-both b (l ∷ ls) ms = book-both (bytesBy s b l) ls ms
+
+output-both : (xs ys : List Answer) → output (xs ++ ys) ≡ output xs ++ output ys
+unfolding output
+output-both [] ys = refl
+output-both (x ∷ xs) ys = rw (output-both xs ys) (sym (append-assoc (printed x) (10 ∷ output xs) (output ys)))
+
+-- ---- what the desk writes is the output of the answers to these lines
+
+record Told (s : Bool) (b : List ℕ) (ls : List (List ℕ)) (written after : List ℕ) : Type 0 where
+  pub outputs : written ≡ output (answersBy s b ls)
+  pub book : after ≡ bookBy s b ls
+
+-- bytes at the front of a space
+front : (o x y : List ℕ) (n : ℕ) → n ≡ length x → y ≡ laid o 0 x → take n y ≡ x
+unfolding laid
+front o x y n e f = rw (f, e) (take-at x (drop (0 + length x) o) (length x) refl)
+
+told-more : (s : Bool) (b h piece : List ℕ) (pieces : List (List ℕ)) (b′ w w′ after : List ℕ) → b′ ≡ bookBy s b (ended (h ++ piece))
+    → w ≡ output (answersBy s b (ended (h ++ piece))) → Told s b′ (linesIn (short (begun (h ++ piece))) pieces) w′ after
+    → Told s b (linesIn h (piece ∷ pieces)) (w ++ w′) after
+unfolding linesIn
+told-more s b h piece pieces b′ w w′ after e f t =
+    let ls = ended (h ++ piece) in
+    let ms = linesIn (short (begun (h ++ piece))) pieces in
+    record {
+      outputs =
+          rw (f, t .outputs, e, answers-both s b ls ms) (sym (output-both (answersBy s b ls) (answersBy s (bookBy s b ls) ms)));
+      book = rw (t .book, e) (sym (book-both s b ls ms));
+    }
+
+fed : {d : Desk} {b text written after : List ℕ} {pieces : List (List ℕ)} → Fed d b text pieces written after
+    → Told (d .sound) b (linesIn (take (d .held) text) pieces) written after
+unfolding linesIn
+fed (last {d} {book} {text} {text₁} {out} {book′} {out′} {r} i e q) =
+    let t = e .takes q in
+    let h : take (d .held) text₁ ≡ take (d .held) text = ap (λ n. take n text₁) (sym (add-zero (d .held))) ∙ i ∙ append-nil (take (d .held) text) in
+    let x = output (answersBy (d .sound) book (lastLine (take (d .held) text₁))) in
+    rw (← h) (record { outputs = front out x out′ (r .written) (t .written) (t .out); book = t .book })
+fed (more {d} {book} {text} {piece} {text₁} {out} {book′} {text′} {out′} {written} {after} {r} {pieces} e p q f) =
+    let t = p .takes q in
+    let h = take (d .held) text in
+    let x = output (answersBy (d .sound) book (ended (h ++ piece))) in
+    let i = fed f in
+    let k : take (r .desk .held) text′ ≡ short (begun (h ++ piece)) =
+    front text₁ (short (begun (h ++ piece))) text′ (r .desk .held) (ap (λ z. z .held) (t .desk) ∙ ap (λ z. length (short (begun z))) e)
+    (t .text ∙ ap (λ z. laid text₁ 0 (short (begun z))) e) in
+    let s : r .desk .sound ≡ d .sound = ap (λ z. z .sound) (t .desk) in
+    told-more (d .sound) book h piece pieces book′ (take (r .written) out′) written after
+    (t .book ∙ ap (λ z. bookBy (d .sound) book (ended z)) e)
+    (front out x out′ (r .written) (t .written ∙ ap (λ z. length (output (answersBy (d .sound) book (ended z)))) e)
+    (t .out ∙ ap (λ z. laid out 0 (output (answersBy (d .sound) book (ended z)))) e))
+    (rw (k, s) at i)
 
 -- ---- THE THEOREM
 
+module _ (b text : List ℕ) (pieces : List (List ℕ)) (written after : List ℕ) (f : Fed (record { held = 0; sound = sound b }) b text pieces written after) where
+  abbrev ls : List (List ℕ)
+  ls = linesOf (joined pieces)
+
+  lines-cut : cut (linesIn [] pieces) ≡ cut ls
+  lines-cut = cut-lines pieces [] open-none
+
+  outputs-whole : written ≡ output (answersOf b ls)
+  outputs-whole =
+      let s = sound b in
+      fed f .outputs ∙ ap output (sym (answers-cut s b (linesIn [] pieces)) ∙ ap (answersBy s b) lines-cut ∙ answers-cut s b ls)
+
+  book-whole : after ≡ bookBy (sound b) b ls
+  book-whole =
+      let s = sound b in
+      fed f .book ∙ sym (book-cut s b (linesIn [] pieces)) ∙ ap (bookBy s b) lines-cut ∙ book-cut s b ls
+
 pub whole : Whole
-whole = record {
-  answers = λ b pieces. sym (answers-cut b (linesIn [] pieces)) ∙ ap (answersOf b) (cut-lines pieces [] open-none) ∙ answers-cut b (linesOf (joined pieces));
-  book = λ b pieces. sym (book-cut b (linesIn [] pieces)) ∙ ap (bookAfter b) (cut-lines pieces [] open-none) ∙ book-cut b (linesOf (joined pieces));
+whole b text pieces written after f = record {
+  outputs = outputs-whole b text pieces written after f;
+  book = book-whole b text pieces written after f;
+  sent = rw (book-whole b text pieces written after f) (submits (sound b) b (linesOf (joined pieces)) refl);
 }
+
+-- ---- demand 3
+
+run : (b : List ℕ) (ls : List (List ℕ)) → Run b ls (answersOf b ls)
+run b ls = rw (append-nil ls, append-nil (answersOf b ls)) at (submits (sound b) b ls refl [] [] done)
+
+pub desk-alone : DeskAlone
+desk-alone lent emptied e text pieces written after f =
+    let ls = linesOf (joined pieces) in
+    record {
+      answers = answersOf emptied ls;
+      outputs = whole emptied text pieces written after f .outputs;
+      alone = λ a low high. one-alone lent emptied e ls (answersOf emptied ls) (run emptied ls) a low high;
+    }

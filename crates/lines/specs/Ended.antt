@@ -25,6 +25,11 @@ unfolding has
 begun [] = []
 begun (c ∷ cs) = cond (has (λ d. eqb d 10) (c ∷ cs)) (begun cs) (c ∷ cs)
 
+-- the end of input ends the line that is begun, if there is one
+unfoldable pub lastLine : List ℕ → List (List ℕ)
+lastLine [] = []
+lastLine (c ∷ cs) = (c ∷ cs) ∷ []
+
 -- as much of a line as its answer depends on: a line over 80 bytes is refused, whatever stands in it
 abbrev pub short : List ℕ → List ℕ
 short line = take 81 line

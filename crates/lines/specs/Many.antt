@@ -1,5 +1,5 @@
 -- Lines answered one by one, each as `submit` answers it, and the answers written one after the other. Assumes nothing.
-use Prim.Native.Nat.{ℕ, _+_, _≤_}
+use Prim.Native.Nat.{ℕ, _+_, _*_, _≤_}
 use mathlib.Core.Path.{_≡_}
 use mathlib.Core.Bool.{Bool, cond}
 use mathlib.Core.List.{List, [], _∷_, _++_}
@@ -12,13 +12,29 @@ use Rattle.answering.specs.Taking.{answerBy, bytesBy}
 use Rattle.lines.specs.Ended.{ended}
 use Rattle.lines.specs.declared.Progress.{Progress}
 
--- ---- one line: what `submit` answers, and the bytes that it leaves
+-- ---- lines answered one by one
 
-abbrev pub answerTo : List ℕ → List ℕ → Answer
-answerTo b line = answerBy (sound b) b line
+-- their answers, over a book that is sound, or is not, as found before the first of them: no line changes that
+unfoldable pub answersBy : Bool → List ℕ → List (List ℕ) → List Answer
+answersBy s b [] = []
+answersBy s b (line ∷ lines) = answerBy s b line ∷ answersBy s (bytesBy s b line) lines
 
-abbrev pub bytesAfter : List ℕ → List ℕ → List ℕ
-bytesAfter b line = bytesBy (sound b) b line
+-- and the book after them
+unfoldable pub bookBy : Bool → List ℕ → List (List ℕ) → List ℕ
+bookBy s b [] = b
+bookBy s b (line ∷ lines) = bookBy s (bytesBy s b line) lines
+
+-- over any book
+abbrev pub answersOf : List ℕ → List (List ℕ) → List Answer
+answersOf b lines = answersBy (sound b) b lines
+
+abbrev pub bookAfter : List ℕ → List (List ℕ) → List ℕ
+bookAfter b lines = bookBy (sound b) b lines
+
+-- how many bytes lines take in a text, each with its byte 10
+unfoldable pub bytesIn : List (List ℕ) → ℕ
+bytesIn [] = 0
+bytesIn (line ∷ lines) = length line + 1 + bytesIn lines
 
 -- an answer as the desk writes it: the printed form, ended by byte 10
 unfoldable pub writtenAs : Answer → List ℕ
@@ -41,36 +57,42 @@ laid out at l = take at out ++ l ++ drop (at + length l) out
 abbrev pub room : Standing → Bool
 room s = leb (s .written + 33) (length (s .out))
 
-unfoldable pub one : Standing → List ℕ → Standing
+unfoldable pub one : Bool → Standing → List ℕ → Standing
 unfolding laid writtenAs
-one s line =
-    let w = writtenAs (answerTo (s .book) line) in
-    record { book = bytesAfter (s .book) line; out = laid (s .out) (s .written) w; read = s .read + (length line + 1); written = s .written + length w }
+one t s line =
+    let w = writtenAs (answerBy t (s .book) line) in
+    record { book = bytesBy t (s .book) line; out = laid (s .out) (s .written) w; read = s .read + (length line + 1); written = s .written + length w }
 
 -- line by line, while there is room for an answer
-unfoldable pub many : List (List ℕ) → Standing → Standing
+unfoldable pub many : Bool → List (List ℕ) → Standing → Standing
 unfolding one
-many [] s = s
-many (l ∷ ls) s = cond (room s) (many ls (one s l)) s
+many t [] s = s
+many t (l ∷ ls) s = cond (room s) (many t ls (one t s l)) s
 
 -- an answer written at an index, where there is room for any; r is where the next one goes
 pub record Put (before : List ℕ) (at : ℕ) (a : Answer) (r : ℕ) (after : List ℕ) : Type 0 where
   pub whole : after ≡ laid before at (writtenAs a)
   pub next : r ≡ at + length (writtenAs a)
   pub few : r ≤ length after
+  pub narrow : r ≤ at + 33
 
 abbrev pub standing : List ℕ → List ℕ → ℕ → ℕ → Standing
 standing b out read written = record { book = b; out = out; read = read; written = written }
 
--- one line answered over a book of which it is known whether it is sound, and the answer written
-pub record Turn (s : Bool) (before line out : List ℕ) (at r : ℕ) (after out′ : List ℕ) : Type 0 where
-  pub turned : s ≡ sound before → (k : ℕ) → one (standing before out k at) line ≡ standing after out′ (k + (length line + 1)) r
-  -- and it stays known
-  pub stays : s ≡ sound before → s ≡ sound after
+-- one line answered over a book that was found to be sound, or not to be, and the answer written
+pub record Turn (t : Bool) (before line out : List ℕ) (at r : ℕ) (after out′ : List ℕ) : Type 0 where
+  pub turned : (k : ℕ) → one t (standing before out k at) line ≡ standing after out′ (k + (length line + 1)) r
   pub few : r ≤ length out′
+  pub narrow : r ≤ at + 33
 
--- what a step over the ended lines of a text promises
-pub record Answered (before text out : List ℕ) (r : Progress) (after out′ : List ℕ) : Type 0 where
-  pub whole : standing after out′ (r .read) (r .written) ≡ many (ended text) (standing before out 0 0)
+-- a step over the ended lines of a text
+pub record AnsweredBy (t : Bool) (before text out : List ℕ) (r : Progress) (after out′ : List ℕ) : Type 0 where
+  pub whole : standing after out′ (r .read) (r .written) ≡ many t (ended text) (standing before out 0 0)
   pub inside : r .read ≤ length text
   pub few : r .written ≤ length out′
+  -- a line has at least one byte with its byte 10, and its answer at most 33
+  pub narrow : r .written ≤ 33 * r .read
+
+-- over any book
+abbrev pub Answered : List ℕ → List ℕ → List ℕ → Progress → List ℕ → List ℕ → Type 0
+Answered before text out r after out′ = AnsweredBy (sound before) before text out r after out′

@@ -2,70 +2,62 @@
 -- nothing.
 use Prim.Native.Nat.{ℕ, _+_, _≤_}
 use mathlib.Core.Path.{_≡_}
-use mathlib.Core.Bool.{false}
+use mathlib.Core.Bool.{true}
 use mathlib.Core.List.{List, [], _∷_, _++_}
-use lib.ListN.{length}
+use lib.ListN.{length, take}
 use Rattle.meaning.specs.Desk.{linesOf, output}
 use Rattle.meaning.specs.Lone.{loneAnswers}
 use Rattle.meaning.specs.declared.Answer.{Answer}
 use Rattle.book.specs.Emptied.{Emptied}
-use Rattle.precheck.specs.Alone.{Run, answersTo}
-use Rattle.lines.specs.Ended.{ended, begun, short}
-use Rattle.lines.specs.Many.{answerTo, bytesAfter, laid, Standing, room, many}
+use Rattle.precheck.specs.Alone.{answersTo}
+use Rattle.lines.specs.Many.{answersOf, bookAfter}
+use Rattle.lines.specs.Sent.{Sent}
+use Rattle.lines.specs.Pieces.{atFirst, Piece, End}
+use Rattle.lines.specs.declared.Desk.{Desk}
+use Rattle.lines.specs.declared.Step.{Step}
 
--- ---- lines submitted one by one
+-- a piece is read behind the bytes that are held, whatever else stands in the text space; at the end of input it has no
+-- byte
+abbrev pub Reads : Desk → List ℕ → List ℕ → List ℕ → Type 0
+Reads d text piece text′ = take (d .held + length piece) text′ ≡ take (d .held) text ++ piece
 
--- their answers
-unfoldable pub answersOf : List ℕ → List (List ℕ) → List Answer
-answersOf b [] = []
-answersOf b (line ∷ lines) = answerTo b line ∷ answersOf (bytesAfter b line) lines
-
--- the book after them
-unfoldable pub bookAfter : List ℕ → List (List ℕ) → List ℕ
-bookAfter b [] = b
-bookAfter b (line ∷ lines) = bookAfter (bytesAfter b line) lines
-
--- these are steps of `submit`, so that demand 3 speaks of them
-abbrev pub Submits : Type 0
-Submits = (b : List ℕ) (lines : List (List ℕ)) → Run b lines (answersOf b lines)
-
--- ---- a step over many lines
-
--- it answers the first of them as if they were submitted one by one, and stops at the last or where there is no room
--- for an answer
-pub record Came (lines : List (List ℕ)) (s r : Standing) : Type 0 where
-  pub done : List (List ℕ)
-  pub rest : List (List ℕ)
-  pub all : lines ≡ done ++ rest
-  pub book : r .book ≡ bookAfter (s .book) done
-  pub out : r .out ≡ laid (s .out) (s .written) (output (answersOf (s .book) done))
-  pub written : r .written ≡ s .written + length (output (answersOf (s .book) done))
-  pub stops : (rest ≡ [] → ⊥) → room r ≡ false
-
-abbrev pub Steps : Type 0
-Steps = (lines : List (List ℕ)) (s : Standing) → s .written ≤ length (s .out) → Came lines s (many lines s)
-
--- ---- pieces
-
--- the lines that the desk answers, from the begun line that it holds and the pieces that come: after each piece those
--- that are ended, and at the end of input the line that is begun, if there is one
-unfoldable pub linesIn : List ℕ → List (List ℕ) → List (List ℕ)
-linesIn held [] = linesOf held
-linesIn held (piece ∷ pieces) = ended (held ++ piece) ++ linesIn (short (begun (held ++ piece))) pieces
+-- pieces handed to a desk one by one up to the end of input, what it writes to the output, and the book after them:
+-- each step is exactly what `answer_piece` promises, and the last what `answer_end` promises
+pub data Fed : Desk → List ℕ → List ℕ → List (List ℕ) → List ℕ → List ℕ → Type 0 where
+  last : {d : Desk} {book text text₁ out book′ out′ : List ℕ} {r : Step}
+      → Reads d text [] text₁ → End d book text₁ out r book′ out′ → r .room ≡ true
+      → Fed d book text [] (take (r .written) out′) book′
+  more : {d : Desk} {book text piece text₁ out book′ text′ out′ written after : List ℕ} {r : Step} {pieces : List (List ℕ)}
+      → Reads d text piece text₁ → Piece d (length piece) book text₁ out r book′ text′ out′ → r .room ≡ true
+      → Fed (r .desk) book′ text′ pieces written after
+      → Fed d book text (piece ∷ pieces) (take (r .written) out′ ++ written) after
 
 -- the pieces as one text
 unfoldable pub joined : List (List ℕ) → List ℕ
 joined [] = []
 joined (piece ∷ pieces) = piece ++ joined pieces
 
--- however the text is parted into pieces, its lines get the same answers and leave the same book
-pub record Whole : Type 0 where
-  pub answers : (b : List ℕ) (pieces : List (List ℕ)) → answersOf b (linesIn [] pieces) ≡ answersOf b (linesOf (joined pieces))
-  pub book : (b : List ℕ) (pieces : List (List ℕ)) → bookAfter b (linesIn [] pieces) ≡ bookAfter b (linesOf (joined pieces))
+-- over any book, however a text is parted into pieces: what is written is the output of the answers to the lines of the
+-- whole text, the book is that after them, and these are steps of `submit`
+pub record AnswersLines (b text written after : List ℕ) : Type 0 where
+  pub outputs : written ≡ output (answersOf b (linesOf text))
+  pub book : after ≡ bookAfter b (linesOf text)
+  pub sent : Sent b (linesOf text) (answersOf b (linesOf text)) after
 
--- demand 3 for a text that comes in pieces
+abbrev pub Whole : Type 0
+Whole =
+    (book text : List ℕ) (pieces : List (List ℕ)) (written after : List ℕ) → Fed (atFirst book) book text pieces written after
+    → AnswersLines book (joined pieces) written after
+
+-- demand 3 for a text that comes in pieces: what is written is the output of answers of which those at the lines that
+-- name a depository are its lone book's
+pub record Alone (text written : List ℕ) : Type 0 where
+  pub answers : List Answer
+  pub outputs : written ≡ output answers
+  pub alone : (a : ℕ) → 1 ≤ a → a ≤ 8 → answersTo a (linesOf text) answers ≡ loneAnswers a (linesOf text)
+
 abbrev pub DeskAlone : Type 0
 DeskAlone =
     (lent emptied : List ℕ) → Emptied lent emptied 0
-    → (pieces : List (List ℕ)) (a : ℕ) → 1 ≤ a → a ≤ 8
-    → answersTo a (linesOf (joined pieces)) (answersOf emptied (linesIn [] pieces)) ≡ loneAnswers a (linesOf (joined pieces))
+    → (text : List ℕ) (pieces : List (List ℕ)) (written after : List ℕ) → Fed (atFirst emptied) emptied text pieces written after
+    → Alone (joined pieces) written

@@ -1,13 +1,15 @@
 // A text of lines that comes in pieces: its ended lines are answered one by one over a lent book, and the line that is
 // begun is kept for the next piece.
 ghost use mathlib.Core.Path.{_≡_};
-ghost use Prim.Native.Nat.{_+_, _-_, _≤_, min};
+ghost use Prim.Native.Nat.{_+_, _-_, _*_, _≤_, min};
 ghost use lib.Dec.{leb};
 ghost use lib.ListN.{length};
-ghost use Rattle.lines.specs.Many.{laid, Put, Turn, Answered};
+ghost use Rattle.lines.specs.Many.{laid, Put, Turn, AnsweredBy, Answered};
+ghost use Rattle.lines.specs.Sent.{SentLines};
 ghost use Rattle.lines.specs.Keeping.{Keeps};
-use answering::answer;
+ghost use Rattle.lines.specs.Pieces.{atFirst, Piece, End};
 use meaning::Answer;
+use answering::answer;
 use soundness::is_sound;
 use text::next_line;
 use text::print;
@@ -16,6 +18,21 @@ use text::print;
 pub struct Progress {
     pub read: usize,
     pub written: usize,
+}
+
+// What a desk knows between two pieces: how many bytes of the begun line stand at the front of its text space, and
+// whether its book is sound.
+pub struct Desk {
+    pub held: usize,
+    pub sound: bool,
+}
+
+// A step of a desk: the desk after it, how many bytes of the answer space are written, and whether the space was large
+// enough; where it was not, nothing was done.
+pub struct Step {
+    pub desk: Desk,
+    pub written: usize,
+    pub room: bool,
 }
 
 // Whether an answer of any length fits from an index on.
@@ -62,13 +79,11 @@ fn answer_line(book: &mut [u8], line: &[u8], sound: bool, out: &mut [u8], at: us
     put_answer(out, at, a)
 }
 
-// Answers the ended lines of a text one by one, as `submit` does, and writes the answers into a lent space. Whether the
-// book is sound is found once: an accepted edit leaves it sound. It stops where an answer might not fit, and says how
-// far it came.
-pub fn submit_lines(book: &mut [u8], text: &[u8], out: &mut [u8]) -> Progress
-    ensures { λ r. ⌜ Answered (now (book .entry)) (now (text .entry)) (now (out .entry)) r (now (book .exit)) (now (out .exit)) ⌝ }
+// Answers the ended lines of a text one by one over a book that was found to be sound, or not to be, and writes the
+// answers into a lent space. It stops where an answer might not fit, and says how far it came.
+fn answer_lines(book: &mut [u8], text: &[u8], sound: bool, out: &mut [u8]) -> Progress
+    ensures { λ r. ⌜ AnsweredBy sound (now (book .entry)) (now (text .entry)) (now (out .entry)) r (now (book .exit)) (now (out .exit)) ⌝ }
 {
-    let sound = is_sound(book);
     let mut read: usize = 0;
     let mut written: usize = 0;
     while has_room(out, written) {
@@ -81,6 +96,16 @@ pub fn submit_lines(book: &mut [u8], text: &[u8], out: &mut [u8]) -> Progress
         read = line.next;
     }
     Progress { read, written }
+}
+
+// Answers the ended lines of a text one by one, as `submit` does, and writes the answers into a lent space. Whether the
+// book is sound is found once: an accepted edit leaves it sound.
+pub fn submit_lines(book: &mut [u8], text: &[u8], out: &mut [u8]) -> Progress
+    ensures exactly { λ r. ⌜ Answered (now (book .entry)) (now (text .entry)) (now (out .entry)) r (now (book .exit)) (now (out .exit)) ⌝ }
+    ensures meaning { λ r. ⌜ SentLines (now (book .entry)) (now (text .entry)) (now (out .entry)) r (now (book .exit)) (now (out .exit)) ⌝ }
+{
+    let sound = is_sound(book);
+    answer_lines(book, text, sound, out)
 }
 
 // ---- the begun line
@@ -101,7 +126,7 @@ fn minus(a: usize, b: usize) -> usize
 // Moves the bytes from an index up to another to the front of a text and returns how many they are: the line that is
 // begun, which goes on with what is read next. Of more than 81 bytes it keeps 81, since a line over 80 bytes is refused
 // whatever follows.
-pub fn keep(text: &mut [u8], from: usize, to: usize) -> usize
+fn keep(text: &mut [u8], from: usize, to: usize) -> usize
     ensures { λ r. ⌜ Keeps (now (text .entry)) from to r (now (text .exit)) ⌝ }
 {
     let len = text.len();
@@ -112,4 +137,92 @@ pub fn keep(text: &mut [u8], from: usize, to: usize) -> usize
         i += 1;
     }
     n
+}
+
+// ---- a desk
+
+// How many bytes of a text stand, where some are held and others came behind them: no more than it has.
+fn reach(held: usize, came: usize, len: usize) -> usize
+    ensures { λ r. ⌜ r ≡ min (held + came) len ⌝ }
+{
+    if held >= len {
+        return len;
+    }
+    if came >= len - held {
+        return len;
+    }
+    held + came
+}
+
+// Whether the answers to a text of n bytes fit: 33 bytes for each.
+fn has_room_for(out: &[u8], n: usize) -> bool
+    ensures { λ r. ⌜ r ≡ leb (33 * n) (length (now (out .entry))) ⌝ }
+{
+    n <= out.len() / 33
+}
+
+// A desk before the first piece.
+pub fn begin(book: &[u8]) -> Desk
+    ensures { λ r. ⌜ r ≡ atFirst (now (book .entry)) ⌝ }
+{
+    let sound = is_sound(book);
+    Desk { held: 0, sound }
+}
+
+// A piece came behind the bytes that the desk holds: the lines that are ended now are answered, and the line that is
+// begun is kept at the front of the text.
+pub fn answer_piece(
+    desk: Desk,
+    came: usize,
+    book: &mut [u8],
+    text: &mut [u8],
+    out: &mut [u8],
+) -> Step
+    ensures { λ r. ⌜ Piece desk came (now (book .entry)) (now (text .entry)) (now (out .entry)) r (now (book .exit)) (now (text .exit)) (now (out .exit)) ⌝ }
+{
+    let n = reach(desk.held, came, text.len());
+    if !has_room_for(out, n) {
+        return Step {
+            desk,
+            written: 0,
+            room: false,
+        };
+    }
+    let sound = desk.sound;
+    let p = answer_lines(book, &text[..n], sound, out);
+    let held = keep(text, p.read, n);
+    Step {
+        desk: Desk { held, sound },
+        written: p.written,
+        room: true,
+    }
+}
+
+// The end of input: the line that is begun is answered, if there is one.
+pub fn answer_end(desk: Desk, book: &mut [u8], text: &[u8], out: &mut [u8]) -> Step
+    ensures { λ r. ⌜ End desk (now (book .entry)) (now (text .entry)) (now (out .entry)) r (now (book .exit)) (now (out .exit)) ⌝ }
+{
+    let n = least(desk.held, text.len());
+    if !has_room_for(out, n) {
+        return Step {
+            desk,
+            written: 0,
+            room: false,
+        };
+    }
+    let sound = desk.sound;
+    let end = Desk { held: 0, sound };
+    if n == 0 {
+        return Step {
+            desk: end,
+            written: 0,
+            room: true,
+        };
+    }
+    let written = answer_line(book, &text[..n], sound, out, 0);
+    Step {
+        desk: end,
+        written,
+        room: true,
+    }
 }

@@ -1,17 +1,14 @@
--- `desk::answer_all` meets its contract. The invariant: at most 81 bytes are held, and every lent space keeps its size.
--- Assumes nothing.
-use Prim.Native.Nat.{_≤_}
-use mathlib.Core.Path.{_≡_}
-use lib.ListN.{length}
+-- `desk::answer_all` meets its contract. Assumes nothing.
+use Rattle.desk.proofs.Looping.{Going, going-first, going-on, going-end, not-done, not-failed}
 use borrow.Author.Needs.{needs}
 use Rattle.desk.proofs.answer_all.Statement.{statement}
 use Rattle.desk.proofs.answer_all.Tie as tie
 
 abbrev Inv-loop : tie.InvT-loop
-Inv-loop fd name book₀ text₀ out₀ held₀ turns₀ book text out held turns = (held ≤ 81) × (length book ≡ length book₀) × (length text ≡ length text₀) × (length out ≡ length out₀)
+Inv-loop fd name book₀ text₀ out₀ desk₀ turns₀ book text out desk turns = Going book₀ text₀ out₀ book text out desk
 
 abbrev μ-loop : tie.MeasureT-loop
-μ-loop fd name book₀ text₀ out₀ held₀ turns₀ book text out held turns = turns
+μ-loop fd name book₀ text₀ out₀ desk₀ turns₀ book text out desk turns = turns
 
 pub answer-all-spec : {M : Type 1} → statement M
 answer-all-spec =
@@ -19,27 +16,27 @@ answer-all-spec =
     (tie.spec
     Inv-loop
     μ-loop
-    (λ c. search needs)
+    (λ c κs. search needs)
+    (λ c. search going-first)
     (λ c κs. search needs)
     (λ c. search needs)
     (λ c. search needs)
     (λ c. search needs)
-    (λ c. search needs)
+    (λ c. search (not-done, c .if1 .taken))
     (λ c κs. search needs)
     (λ c. search needs)
     (λ c. search needs)
     (λ c. search needs)
-    (λ c. search needs)
-    (λ c. search needs)
+    (λ c. search going-end)
     (λ c κs. search needs)
     (λ c. search needs)
     (λ c. search needs)
     (λ c. search needs)
+    (λ c. search (not-done, c .if3 .taken))
+    (λ c. search needs)
+    (λ c. search needs)
+    (λ c. search going-on)
     (λ c. search needs)
     (λ c. search needs)
     (λ c. search needs)
-    (λ c. search needs)
-    (λ c. search needs)
-    (λ c. search needs)
-    (λ c. search needs)
-    (λ c. search needs))
+    (λ c. search not-failed))

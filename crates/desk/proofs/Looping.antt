@@ -1,0 +1,75 @@
+-- The desk's loop hands an input in pieces to `lines`.
+use Prim.Native.Nat.{ℕ, _+_, _*_, _≤_, _<_}
+use mathlib.Core.Path.{_≡_, refl, sym, ap, _∙_}
+use mathlib.Core.Bool.{Bool, true}
+use mathlib.Core.List.{List, [], _∷_, _++_, append-nil}
+use native.Mathlib.Omega.{arith}
+use native.Mathlib.Nat.{add-zero}
+use lib.ListN.{length, take, drop, length-take, length-drop}
+use lib.Seq.{length-take-le, take-add}
+use Rattle.lines.specs.Ended.{begun, short}
+use Rattle.lines.specs.Pieces.{atFirst, Piece, End}
+use Rattle.lines.specs.Whole.{Fed, last, more}
+use Rattle.lines.specs.declared.Desk.{Desk}
+use Rattle.lines.specs.declared.Step.{Step}
+use Rattle.lines.proofs.LinesCallers.{has-room}
+use Rattle.desk.specs.Loop.{Behind, Hands, Ends, Input}
+
+pub not-done : {A : Type 0} (s : ℕ) → (s ≡ 48 → ⊥) → s ≡ 48 → A
+not-done s f e = absurd (f e)
+
+pub not-failed : {A : Type 0} → _≡_ {A = ℕ} 49 48 → A
+not-failed e = absurd (omega arith)
+
+-- a part of a text that stands within it has room where the whole has
+fits : (k : ℕ) (t o : List ℕ) → 33 * length t ≤ length o → 33 * length (take k t) ≤ length o
+fits k t o h = omega (arith, length-take k t)
+
+pub hands : {d : Desk} {n : ℕ} {b t o b′ t′ o′ : List ℕ} {r : Step} → Piece d n b t o r b′ t′ o′ → 33 * length t ≤ length o → Hands d n b t (r .desk) b′ t′
+hands {d} {n} {b} {t} {o} {b′} {t′} {o′} {r} p h =
+    record { out = o; out′ = o′; step = r; piece = p; room = has-room p (fits (d .held + n) t o h); desk = refl }
+
+pub ends : {d : Desk} {b t o b′ o′ : List ℕ} {r : Step} → End d b t o r b′ o′ → 33 * length t ≤ length o → Ends d b t b′
+ends {d} {b} {t} {o} {b′} {o′} {r} e h = record { out = o; out′ = o′; step = r; end = e; room = has-room e (fits (d .held) t o h) }
+
+-- what is handed from here on goes on with what was handed before
+pub record Going (b₀ t₀ o₀ b t o : List ℕ) (d : Desk) : Type 0 where
+  pub on : (pieces : List (List ℕ)) (written after : List ℕ) → Fed d b t pieces written after → Input b₀ t₀ after
+  pub held : d .held ≤ 81
+  pub book-size : length b ≡ length b₀
+  pub text-size : length t ≡ length t₀
+  pub out-size : length o ≡ length o₀
+
+pub going-first : (b t o : List ℕ) {d : Desk} → d ≡ atFirst b → Going b t o b t o d
+going-first b t o e = record {
+  on = λ ps w a f. record { pieces = ps; written = w; fed = rw (← e) f };
+  held = rw e (omega arith);
+  book-size = refl;
+  text-size = refl;
+  out-size = refl;
+}
+
+module _ {b₀ t₀ o₀ b t o t₁ : List ℕ} {d : Desk} {n : ℕ} (g : Going b₀ t₀ o₀ b t o d) (h : Behind (d .held) t n t₁) where
+  pub going-end : {b′ : List ℕ} → Ends d b t₁ b′ → Input b₀ t₀ b′
+  going-end {b′} e =
+      g .on [] (take (e .step .written) (e .out′)) b′
+      (last (ap (λ k. take k t₁) (add-zero (d .held)) ∙ h .front ∙ sym (append-nil (take (d .held) t))) (e .end) (e .room))
+
+  -- the bytes that came are the next piece
+  pub going-on : {d′ : Desk} {b′ t′ o′ : List ℕ} → Hands d n b t₁ d′ b′ t′ → length t₁ ≡ length t → length b′ ≡ length b → length t′ ≡ length t₁
+      → length o′ ≡ length o → Going b₀ t₀ o₀ b′ t′ o′ d′
+  going-on {d′} {b′} {t′} i j x y z =
+      let piece = take n (drop (d .held) t₁) in
+      let r = i .step in
+      let m : length piece ≡ n = length-take-le n (drop (d .held) t₁) (omega (arith, length-drop (d .held) t₁, h .inside)) in
+      let read : take (d .held + length piece) t₁ ≡ take (d .held) t ++ piece =
+      ap (λ k. take (d .held + k) t₁) m ∙ take-add (d .held) n t₁ ∙ ap (λ k. k ++ piece) (h .front) in
+      let came : Piece d (length piece) b t₁ (i .out) r b′ t′ (i .out′) = rw m (i .piece) in
+      let e = ap (λ k. k .held) (i .desk ∙ i .piece .takes (i .room) .desk) in
+      record {
+        on = λ ps w a f. g .on (piece ∷ ps) (take (r .written) (i .out′) ++ w) a (more read came (i .room) (rw (i .desk) at f));
+        held = omega (arith, e, length-take 81 (begun (take (d .held + n) t₁)));
+        book-size = x ∙ g .book-size;
+        text-size = y ∙ j ∙ g .text-size;
+        out-size = z ∙ g .out-size;
+      }

@@ -1,0 +1,39 @@
+-- What the desk's loop does with an input: it hands it in pieces to `lines`. Assumes nothing.
+use Prim.Native.Nat.{ℕ, _+_, _≤_}
+use mathlib.Core.Path.{_≡_}
+use mathlib.Core.Bool.{true}
+use mathlib.Core.List.{List}
+use lib.ListN.{length, take}
+use Rattle.lines.specs.Pieces.{atFirst, Piece, End}
+use Rattle.lines.specs.Whole.{Fed}
+use Rattle.lines.specs.declared.Desk.{Desk}
+use Rattle.lines.specs.declared.Step.{Step}
+
+-- r bytes were read behind the held ones, which stay
+pub record Behind (held : ℕ) (t : List ℕ) (r : ℕ) (t′ : List ℕ) : Type 0 where
+  pub front : take held t′ ≡ take held t
+  pub inside : held + r ≤ length t′
+
+-- a piece was handed on, and there was room
+pub record Hands (d : Desk) (came : ℕ) (b t : List ℕ) (d′ : Desk) (b′ t′ : List ℕ) : Type 0 where
+  pub out : List ℕ
+  pub out′ : List ℕ
+  pub step : Step
+  pub piece : Piece d came b t out step b′ t′ out′
+  pub room : step .room ≡ true
+  pub desk : d′ ≡ step .desk
+
+-- so was the end of input
+pub record Ends (d : Desk) (b t b′ : List ℕ) : Type 0 where
+  pub out : List ℕ
+  pub out′ : List ℕ
+  pub step : Step
+  pub end : End d b t out step b′ out′
+  pub room : step .room ≡ true
+
+-- the pieces that were read up to the end of input, and what was written: `WholeText.whole` and `desk-alone` of `lines`
+-- speak of these
+pub record Input (b t b′ : List ℕ) : Type 0 where
+  pub pieces : List (List ℕ)
+  pub written : List ℕ
+  pub fed : Fed (atFirst b) b t pieces written b′
