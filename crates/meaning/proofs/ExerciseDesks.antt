@@ -3,7 +3,7 @@
 use Prim.Native.Nat.{ℕ}
 use mathlib.Core.Path.{_≡_, refl}
 use mathlib.Core.Bool.{true}
-use mathlib.Core.List.{List, [], _∷_}
+use mathlib.Core.List.{List, [], _∷_, map}
 use native.Mathlib.Omega.{arith}
 use Rattle.tables.specs.Count.{count, has, least, change}
 use Rattle.meaning.specs.Text.{bytes, word}
@@ -11,7 +11,8 @@ use Rattle.meaning.specs.Records.{Rule, Row, Book, Question, empty, posi
 use Rattle.meaning.specs.Reading.{reading}
 use Rattle.meaning.specs.Sound.{soundLone}
 use Rattle.meaning.specs.Judging.{judged}
-use Rattle.meaning.specs.Lone.{answersFrom, after}
+use Rattle.meaning.specs.Lone.{answersFrom, after, answers}
+use Rattle.meaning.specs.Printing.{printed}
 use Rattle.meaning.specs.SameBook.{SameBook}
 use Rattle.meaning.specs.Exercise.{commandRead, Entered, sameRule, outAndIn, byReorder, byEntry, Moves, between, namesRule, decides}
 use Rattle.meaning.proofs.ExerciseOutIn.{put-back}
@@ -101,3 +102,29 @@ delivery = record {
 pub second-desk : namesRule 9 7 (judged (after desk secondDesk) delivery) ≡ true
 unfolding desk decides has between least
 second-desk = behind-another desk (free 5) 9 secondDesk second-moves delivery refl refl
+
+-- A negative rule exempts in front of the positive one and behind it: 3, then 7.
+pub negative-desk : map printed (answers (
+    bytes "T,3,20170206,9,1,3,20170207,20991231"
+    ∷ bytes "R,3,20170206,9,1,5,P,4,20170207,20991231"
+    ∷ bytes "M,3,20170206,9,1,5,,,FREE,,,,,,,"
+    ∷ bytes "Q,3,20170207,1,2,DELI,FREE,,EUR,11,20,30"
+    ∷ bytes "R,3,20170206,9,1,3,N,2,20170207,20991231"
+    ∷ bytes "M,3,20170206,9,1,3,,DELI,,,,,,,,"
+    ∷ bytes "Q,3,20170207,1,2,DELI,FREE,,EUR,11,20,30"
+    ∷ bytes "O,3,20170206,9,1,3,7"
+    ∷ bytes "Q,3,20170207,1,2,DELI,FREE,,EUR,11,20,30"
+    ∷ []
+    ))
+    ≡ bytes "K"
+    ∷ bytes "K"
+    ∷ bytes "K"
+    ∷ bytes "V,A,0,0,0,0,9,5"
+    ∷ bytes "K"
+    ∷ bytes "K"
+    ∷ bytes "V,A,0,0,0,0,0,0"
+    ∷ bytes "K"
+    ∷ bytes "V,A,0,0,0,0,0,0"
+    ∷ []
+unfolding answers printed
+negative-desk = refl

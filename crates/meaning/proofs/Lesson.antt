@@ -1,5 +1,6 @@
--- The lesson (docs/LESSON.md), by computation: its lines as they are typed, and the answers. Depository 3's lone book
--- answers all but the one line of depository 4. Assumes nothing.
+-- The lesson (docs/LESSON.md), by computation: its lines as they are typed, and what each depository's lone book
+-- answers. Assumes nothing.
+-- Written by tools/lesson.py: change that, then run tools/generate.
 use Prim.Native.Nat.{ℕ}
 use mathlib.Core.Path.{_≡_, refl}
 use mathlib.Core.List.{List, [], _∷_, map}
@@ -7,6 +8,7 @@ use Rattle.meaning.specs.Text.{bytes}
 use Rattle.meaning.specs.Lone.{loneAnswers}
 use Rattle.meaning.specs.Printing.{printed}
 
+-- the lines
 unfoldable pub lessonLines : List (List ℕ)
 lessonLines =
     bytes "T,3,20170206,9,1,3,20170207,20991231"
@@ -40,8 +42,8 @@ lessonLines =
     ∷ []
 
 -- the answers to depository 3
-unfoldable pub lessonAnswers : List (List ℕ)
-lessonAnswers =
+unfoldable pub answersTo3 : List (List ℕ)
+answersTo3 =
     bytes "K"
     ∷ bytes "K"
     ∷ bytes "K"
@@ -71,6 +73,13 @@ lessonAnswers =
     ∷ bytes "K"
     ∷ []
 
-pub lesson-answered : map (λ csd. map printed (loneAnswers csd lessonLines)) (3 ∷ 4 ∷ []) ≡ lessonAnswers ∷ (bytes "V,A,0,0,0,0,0,0" ∷ []) ∷ []
-unfolding lessonLines lessonAnswers loneAnswers printed
+-- the answers to depository 4
+unfoldable pub answersTo4 : List (List ℕ)
+answersTo4 =
+    bytes "V,A,0,0,0,0,0,0"
+    ∷ []
+
+pub lesson-answered : map (λ csd. map printed (loneAnswers csd lessonLines)) (3 ∷ 4 ∷ [])
+    ≡ answersTo3 ∷ answersTo4 ∷ []
+unfolding lessonLines answersTo3 answersTo4 loneAnswers printed
 lesson-answered = refl

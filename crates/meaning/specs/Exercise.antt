@@ -170,8 +170,8 @@ ElsewhereChanges =
     → let either = decides b q r || decides (after b lines) q (ruleMoved new r) in
     (either ≡ false → judged (after b lines) q ≡ judged b q) × (judged (after b lines) q ≡ judged b q → either ≡ false)
 
--- The second desk: where the moved rule decided and another matching positive rule of its type stands between its old and
--- its new sequence, the least of those is named instead.
+-- The second desk: where the moved rule decided and another matching positive rule of its type stands between its old
+-- and its new sequence, the least of those is named instead.
 abbrev pub BehindAnother : Type 0
 BehindAnother =
     (b : Book) (r : Rule) (new : ℕ) (lines : List (List ℕ)) → Moves b r new lines → (q : Question)
