@@ -58,11 +58,17 @@ module _ (b : List ℕ) (c : Command) where
   unfolding answerOf bytesAfter refusalOf taken
   took-refusal n x f g h =
       let r : eqb (refusal m k) 0 ≡ false = ap (λ j. eqb j 0) (sym h) ∙ ne-eqb n 0 f in
-      let u : taken m k ≡ record { answer = Refused n; book = m } = ap (λ j. unless j m k) (sym h) ∙ unless-refused n m k f in
+      let u : taken m k ≡ record { answer = Refused n; book = m } =
+      ap (λ j. unless j m k) (sym h) ∙ unless-refused n m k f in
       record {
         answered = rw r (g ∙ ap Refused h);
         bytes = rw r;
-        meant = λ y. record { answered = g ∙ ap (λ z. z .answer) (sym u); left = rw u (unchanged b (c .csd)); stays = y .book };
+        meant = λ y.
+            record {
+              answered = g ∙ ap (λ z. z .answer) (sym u);
+              left = rw u (unchanged b (c .csd));
+              stays = y .book;
+            };
       }
 
   -- ---- where no refusal holds
@@ -82,7 +88,12 @@ module _ (b : List ℕ) (c : Command) where
         record {
           answered = rw r h;
           bytes = rw r g;
-          meant = λ y. record { answered = rw unrefused (replies y); left = rw unrefused (leaves y .left); stays = leaves y .stays };
+          meant = λ y.
+              record {
+                answered = rw unrefused (replies y);
+                left = rw unrefused (leaves y .left);
+                stays = leaves y .stays;
+              };
         }
 
     -- by what `judge` ensures
@@ -95,7 +106,7 @@ module _ (b : List ℕ) (c : Command) where
         let left : b ≡ editIn b (c .csd) k = sym (question-left b (c .csd) k (ap isSome i)) in
         took b (Judged v) (rw (e, f)) left
         (λ y.
-        let right : v ≡ judged (loneBook (q .csd) b) (questionOf q) = g (rw (y .own q e) (sound-lone b (y .book) (c .csd) (y .low) (y .high))) in
+        let right = g (rw (y .own q e) (sound-lone b (y .book) (c .csd) (y .low) (y .high))) in
         ap Judged (right ∙ ap (λ z. judged (loneBook z b) (questionOf q)) (y .own q e)) ∙ ap (replied m) (sym i))
         (λ y. edit-meant b b c left (accepted y))
 

@@ -147,7 +147,8 @@ module _ (b line : List ℕ) (l : Letter) (v : List ℕ) (s : sound b ≡ true) 
   kept : (b′ : List ℕ) → b′ ≡ bytesAfter b d → leftAsFound b line ≡ true → b′ ≡ b
   unfolding bytesAfter refusalOf coded
   kept b′ i h =
-      let j : b′ ≡ cond (eqb (refusal m k) 0) (editIn b c k) b = i ∙ ap (λ z. cond (eqb (refusal m z) 0) (editIn b c z) b) same in
+      let j : b′ ≡ cond (eqb (refusal m k) 0) (editIn b c k) b =
+      i ∙ ap (λ z. cond (eqb (refusal m z) 0) (editIn b c z) b) same in
       cases-eq (refusal m k) 0
       (λ r. (rw (eq-eqb (refusal m k) 0 r) at j) ∙ question-left b c k (left-question r h))
       (λ r. rw (ne-eqb (refusal m k) 0 r) at j)

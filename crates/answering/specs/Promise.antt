@@ -1,5 +1,5 @@
--- What `submit` (crate `precheck`) promises, for any bytes as the book and any bytes as the line: demands 1 and 2. Assumes
--- nothing.
+-- What `submit` (crate `precheck`) promises, for any bytes as the book and any bytes as the line: demands 1 and 2.
+-- Assumes nothing.
 use Prim.Native.Nat.{ℕ, _≤_}
 use mathlib.Core.Path.{_≡_}
 use mathlib.Core.Bool.{Bool, true, cond, not, _||_}

@@ -46,7 +46,8 @@ answerOf b c = cond (eqb (refusalOf b c) 0) (replyTo b (c .what)) (Refused (refu
 unfoldable pub bytesAfter : List ℕ → Command → List ℕ
 bytesAfter b c = cond (eqb (refusalOf b c) 0) (editIn b (c .csd) (asked c)) b
 
--- a command as a line that is read asks it, over a sound book: of a depository, in range, its question that depository's
+-- a command as a line that is read asks it, over a sound book: of a depository, in range, and a question is that
+-- depository's
 pub record Ready (b : List ℕ) (c : Command) : Type 0 where
   pub book : sound b ≡ true
   pub low : 1 ≤ c .csd

@@ -19,7 +19,7 @@ pub record Leaves (b b′ : List ℕ) (c : ℕ) (m : M.Book) : Type 0 where
   pub own : SameBook (loneBook c b′) m
   pub others : (a : ℕ) → 1 ≤ a → (c ≡ a → ⊥) → loneBook a b′ ≡ loneBook a b
 
--- over a sound book, a command of a depository, in range as that of every line that is read, for which no refusal holds
+-- over a sound book, a command of a depository, in range as that of every line that is read, and no refusal of it holds
 pub record Accepted (b : List ℕ) (c : ℕ) (k : M.Command) : Type 0 where
   pub book : sound b ≡ true
   pub low : 1 ≤ c

@@ -3,7 +3,6 @@ use Prim.Native.Nat.{ℕ}
 use mathlib.Core.Path.{_≡_, refl, _∙_}
 use mathlib.Core.Bool.{Bool, true}
 use mathlib.Core.List.{List}
-use lib.ListN.{length}
 use Rattle.tables.specs.Keyed.{marked}
 use Rattle.tables.proofs.Keying.{keyed-marks}
 use Rattle.meaning.specs.Judging.{judged}
@@ -22,19 +21,16 @@ by-rows : (b : List ℕ) (q : Question) (codes : ℕ → Bool) (rows : List ℕ)
 unfolding rowsMatched
 by-rows b q codes rows m = keyed-marks _ _ _ _ _ _ rows rowPlaces rowPlaces m refl
 
-module _ (b : List ℕ) (q : Question) (space rows : List ℕ) (signs : ℕ → Bool) (named : ℕ → ℕ) (r : Verdict) where
-  pub by-stages : r ≡ verdict (rulesMatched b q (marked rows)) named → named ≡ typesNamed b q signs
-      → signs ≡ signsMatched b q (marked rows) → RowsMarked (length space) b q (codesBorne b q) rows
-      → length space ≡ ruleKeys → r ≡ judgedBy b q
-  unfolding judgedBy
-  by-stages e en es er el = e ∙ rw (en, es, rows-found)
-    where
-      rows-found : marked rows ≡ rowsMatched b q (codesBorne b q)
-      rows-found = by-rows b q (codesBorne b q) rows (rw el at er)
+pub by-stages : (b : List ℕ) (q : Question) (n : ℕ) (rows : List ℕ) (signs : ℕ → Bool) (named : ℕ → ℕ) (r : Verdict)
+    → r ≡ verdict (rulesMatched b q (marked rows)) named → named ≡ typesNamed b q signs
+    → signs ≡ signsMatched b q (marked rows) → RowsMarked n b q (codesBorne b q) rows
+    → n ≡ ruleKeys
+    → (r ≡ judgedBy b q) × (soundLone (loneBook (q .csd) b) ≡ true → r ≡ judged (loneBook (q .csd) b) (questionOf q))
+unfolding judgedBy
+by-stages b q n rows signs named r e en es er el = (whole, λ s. whole ∙ judged-right b q s)
+  where
+    rows-found : marked rows ≡ rowsMatched b q (codesBorne b q)
+    rows-found = by-rows b q (codesBorne b q) rows (rw el at er)
 
-  -- so that it is the meaning's, where the depository's records are sound
-  pub stages-meant : r ≡ verdict (rulesMatched b q (marked rows)) named → named ≡ typesNamed b q signs
-      → signs ≡ signsMatched b q (marked rows) → RowsMarked (length space) b q (codesBorne b q) rows
-      → length space ≡ ruleKeys → soundLone (loneBook (q .csd) b) ≡ true
-      → r ≡ judged (loneBook (q .csd) b) (questionOf q)
-  stages-meant e en es er el s = by-stages e en es er el ∙ judged-right b q s
+    whole : r ≡ judgedBy b q
+    whole = e ∙ rw (en, es, rows-found)
