@@ -3,15 +3,14 @@ use Prim.Native.Nat.{ℕ, zero, suc}
 use mathlib.Core.Path.{_≡_, refl, ap, sym, subst, _∙_}
 use mathlib.Core.Bool.{true}
 use mathlib.Core.List.{List, [], _∷_, map}
-use mathlib.Core.Option.{Option, some, none}
+use mathlib.Core.Option.{some}
 use native.Mathlib.Omega.{arith}
 use Rattle.meaning.specs.Records.{Book, Command, commandOf}
 use Rattle.meaning.specs.Reading.{Reading, refused, asks, reading}
 use Rattle.meaning.specs.Refusals.{refusal}
 use Rattle.meaning.specs.Edits.{edited, fits}
-use Rattle.meaning.specs.Lone.{Step, reply, unless, taken, afterReading, step, answersFrom, after}
-use Rattle.meaning.specs.declared.Answer.{Answer}
-use Rattle.meaning.specs.declared.Answer.the-variants.{Taken, Refused}
+use Rattle.meaning.specs.Lone.{Step, unless, taken, afterReading, step, answersFrom, after}
+use Rattle.meaning.specs.declared.Answer.the-variants.{Taken}
 use Rattle.meaning.specs.Exercise.{commandRead, Entered}
 use Rattle.meaning.proofs.Ranges.{reading-fits}
 
