@@ -14,7 +14,7 @@ use Rattle.meaning.specs.Judging.{judged}
 use Rattle.meaning.specs.Lone.{answersFrom, after, answers}
 use Rattle.meaning.specs.Printing.{printed}
 use Rattle.meaning.specs.SameBook.{SameBook}
-use Rattle.meaning.specs.Exercise.{commandRead, Entered, sameRule, outAndIn, byReorder, byEntry, Moves, between, namesRule, decides}
+use Rattle.meaning.specs.Exercise.{commandRead, sameRule, byEntry, Moves, between, namesRule, decides}
 use Rattle.meaning.proofs.ExerciseOutIn.{put-back}
 use Rattle.meaning.proofs.ExerciseMoved.{behind-another}
 

@@ -1,16 +1,15 @@
 -- How a question is judged when a rule and its rows have another sequence: each rule applies as it did, so only the
 -- sequence that is named can differ.
-use Prim.Native.Nat.{ℕ, zero, suc}
+use Prim.Native.Nat.{ℕ}
 use mathlib.Core.Path.{_≡_, refl, ap, ap₂, sym, _∙_, fun-ext}
-use mathlib.Core.Bool.{Bool, true, false, cond, not, _&&_, false≢true}
-use mathlib.Core.List.{List}
+use mathlib.Core.Bool.{Bool, true, false, cond, not, _&&_}
 use lib.Dec.{eqb}
 use borrow.Author.Tests.{not-true}
 use Rattle.tables.specs.Count.{has, every, change, least}
-use Rattle.tables.proofs.Counts.{cases, both, agree}
+use Rattle.tables.proofs.Counts.{cases}
 use Rattle.tables.proofs.Lists.{has-false, every-none}
 use Rattle.tables.proofs.Least.{has-agree, has-alter, least-alter, least-agree}
-use Rattle.meaning.specs.Records.{TypeRecord, Rule, Row, Book, Question, positive, negative, reorder}
+use Rattle.meaning.specs.Records.{Rule, Row, Book, Question, positive, negative, reorder}
 use Rattle.meaning.specs.Keys.{isRule, ofRule}
 use Rattle.meaning.specs.Edits.{ruleMoved, rowMoved, edited}
 use Rattle.meaning.specs.Judging.{covers, meetsAll, tests, matches, ruleApplies, applies, named, deciding}

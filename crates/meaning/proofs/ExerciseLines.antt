@@ -3,16 +3,16 @@ use Prim.Native.Nat.{ℕ, zero, suc}
 use mathlib.Core.Path.{_≡_, refl, ap, sym, subst, _∙_}
 use mathlib.Core.Bool.{true}
 use mathlib.Core.List.{List, [], _∷_, map}
-use mathlib.Core.Option.{Option, some, none}
+use mathlib.Core.Option.{some}
 use native.Mathlib.Omega.{arith}
-use Rattle.meaning.specs.Records.{Book, Command, commandOf}
+use Rattle.meaning.specs.Records.{Book, Question, Command, commandOf, ask}
 use Rattle.meaning.specs.Reading.{Reading, refused, asks, reading}
-use Rattle.meaning.specs.Refusals.{refusal}
+use Rattle.meaning.specs.Refusals.{conditions, refusal}
 use Rattle.meaning.specs.Edits.{edited, fits}
-use Rattle.meaning.specs.Lone.{Step, reply, unless, taken, afterReading, step, answersFrom, after}
-use Rattle.meaning.specs.declared.Answer.{Answer}
-use Rattle.meaning.specs.declared.Answer.the-variants.{Taken, Refused}
-use Rattle.meaning.specs.Exercise.{commandRead, Entered}
+use Rattle.meaning.specs.Judging.{judged}
+use Rattle.meaning.specs.Lone.{Step, reply, replied, unless, taken, afterReading, step, answersFrom, after}
+use Rattle.meaning.specs.declared.Answer.the-variants.{Taken, Judged}
+use Rattle.meaning.specs.Exercise.{commandRead, Entered, QuestionAnswered}
 use Rattle.meaning.proofs.Ranges.{reading-fits}
 
 -- the commands are in range and not refused, one after the other, and leave the book c
@@ -62,3 +62,15 @@ through (line ∷ lines) b (k ∷ ks) e t =
 
 pub accepted : {b : Book} {lines : List (List ℕ)} {ks : List Command} → Entered b lines ks → Accepted b ks (after b lines)
 accepted {b = b} {lines = lines} {ks = ks} e = through lines b ks (e .asked) (e .taken)
+
+-- ---- questions
+
+read-answered : (b : Book) (r : Reading) (q : Question) → commandRead r ≡ some (ask q)
+    → afterReading b r .answer ≡ Judged (judged b q)
+unfolding afterReading commandRead taken refusal conditions unless reply replied
+read-answered b (refused n) q e = absurd (let z : _≡_ {A = ℕ} 0 1 = cc in omega arith)
+read-answered b (asks l v) q e = let i : commandOf l v ≡ ask q = cc in ap (λ k. taken b k .answer) i
+
+pub question-answered : QuestionAnswered
+unfolding step
+question-answered b line q = read-answered b (reading line) q

@@ -1,22 +1,20 @@
 -- A rule moved to another sequence: what the answers to questions are then.
 use Prim.Native.Nat.{ℕ, _≤_}
 use mathlib.Core.Path.{_≡_, refl, ap, sym, _∙_}
-use mathlib.Core.Bool.{Bool, true, false, cond, _&&_, _||_, false≢true}
-use mathlib.Core.List.{List}
+use mathlib.Core.Bool.{Bool, true, false, _&&_, _||_, false≢true}
 use native.Mathlib.Omega.{arith}
-use lib.Dec.{eqb, leb, ltb}
+use lib.Dec.{eqb}
 use borrow.Author.Tests.{eqb-true, eq-eqb, leb-true}
-use Rattle.tables.specs.Count.{has, every, least}
+use Rattle.tables.specs.Count.{has, least}
 use Rattle.tables.proofs.Counts.{cases, both, neither, ands}
 use Rattle.tables.proofs.Lists.{has-true, every-any, some-of}
 use Rattle.tables.proofs.Least.{least-agree, least-reached, least-among, least-apart}
-use Rattle.meaning.specs.Forms.{holds, typeForm}
+use Rattle.meaning.specs.Forms.{holds}
 use Rattle.meaning.specs.Records.{Rule, Book, Question, positive, negative, reorder}
 use Rattle.meaning.specs.Keys.{isRule, ofRule}
 use Rattle.meaning.specs.Edits.{ruleMoved, edited}
 use Rattle.meaning.specs.Judging.{matches, ruleApplies, deciding, judged}
 use Rattle.meaning.specs.Sound.{keyFits, ruleFits}
-use Rattle.meaning.specs.Lone.{after}
 use Rattle.meaning.specs.Exercise.{
   sameRule,
   resequenced,
@@ -32,7 +30,7 @@ use Rattle.meaning.specs.Exercise.{
   NegativeMoved,
   WithoutRowsMoved,
 }
-use Rattle.meaning.proofs.Keys.{rule-key, is-rule, is-of}
+use Rattle.meaning.proofs.Keys.{rule-key, is-rule}
 use Rattle.meaning.proofs.Listed.{not-so, has-map}
 use Rattle.meaning.proofs.Order.{judged-same}
 use Rattle.meaning.proofs.KeptOrder.{no-rows}

@@ -1,11 +1,10 @@
 -- A rule taken out with its rows and entered again under a sequence leaves the records that O leaves; under its own
 -- sequence, those that were there.
-use Prim.Native.Nat.{ℕ, _+_, _≤_}
+use Prim.Native.Nat.{ℕ, _+_}
 use mathlib.Core.Path.{_≡_, refl, ap, sym, _∙_}
-use mathlib.Core.Bool.{Bool, true, false, cond, not, _&&_, _||_}
+use mathlib.Core.Bool.{Bool, true, false, not, _&&_}
 use mathlib.Core.List.{List, [], _∷_, _++_, map}
 use native.Mathlib.Omega.{arith}
-use lib.Dec.{eqb}
 use borrow.Author.Tests.{eqb-true, not-true, not-false}
 use Rattle.tables.specs.Count.{bit, count, has, every, without, change, Same}
 use Rattle.tables.proofs.Counts.{cases, ands, count-ext, count-keep, count-alter}
@@ -15,7 +14,7 @@ use Rattle.tables.proofs.Outs.{count-rest, count-out, alter-none}
 use Rattle.meaning.specs.Records.{Rule, Row, Book, Command, addRow, deleteRow, deleteRule, addRule, reorder}
 use Rattle.meaning.specs.Keys.{isRule, ofRule, isRow}
 use Rattle.meaning.specs.Refusals.{conditions, refusal}
-use Rattle.meaning.specs.Edits.{ruleMoved, rowMoved, withRules, withRows, edited, fits}
+use Rattle.meaning.specs.Edits.{ruleMoved, rowMoved, withRows, edited, fits}
 use Rattle.meaning.specs.Sound.{ruleFits}
 use Rattle.meaning.specs.SameBook.{SameBook}
 use Rattle.meaning.specs.Lone.{after}

@@ -4,12 +4,11 @@ use mathlib.Core.Path.{_≡_, refl, ap, sym, _∙_, fun-ext}
 use mathlib.Core.Bool.{Bool, true, false, _&&_, _||_, or-true, false≢true}
 use native.Mathlib.Omega.{arith}
 use lib.Dec.{eqb}
-use borrow.Author.Tests.{eqb-true, eq-eqb, eqb-false}
+use borrow.Author.Tests.{eqb-true, eq-eqb}
 use Rattle.tables.proofs.Counts.{cases, both, neither}
 use Rattle.meaning.specs.Records.{Book, Question, rejection, validationHold, partyHold}
 use Rattle.meaning.specs.Judging.{by, named, deciding, decided, verdict, judged}
 use Rattle.meaning.specs.Exercise.{sequenced, resequenced, SameTypes, isDeciding, namesRule}
-use Rattle.meaning.specs.declared.Deciding.{Deciding}
 use Rattle.meaning.specs.declared.Verdict.{Verdict}
 
 -- ---- what is judged

@@ -1,9 +1,8 @@
 -- Both ways to move a rule lead to the same records: those that O leaves.
 use Prim.Native.Nat.{ℕ, _≤_}
 use mathlib.Core.Path.{_≡_, refl, ap, sym, _∙_}
-use mathlib.Core.Bool.{Bool, true, false, false≢true}
+use mathlib.Core.Bool.{true, false, false≢true}
 use mathlib.Core.List.{List}
-use lib.Dec.{leb}
 use borrow.Author.Tests.{leb-true}
 use Rattle.tables.specs.Count.{count, has, every}
 use Rattle.tables.proofs.Counts.{ands}
@@ -20,7 +19,7 @@ use Rattle.meaning.proofs.First.{command-not-refused}
 use Rattle.meaning.proofs.Keys.{rule-key}
 use Rattle.meaning.proofs.Listed.{not-so, has-map, has-without}
 use Rattle.meaning.proofs.Good.{Good, good-of-sound}
-use Rattle.meaning.proofs.ExerciseLines.{Accepted, accepted}
+use Rattle.meaning.proofs.ExerciseLines.{accepted}
 use Rattle.meaning.proofs.ExerciseOutIn.{same-key, again}
 
 -- a rule that is moved to a sequence that no rule of its type has

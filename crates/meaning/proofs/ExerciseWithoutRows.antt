@@ -1,18 +1,17 @@
 -- A rule without rows applies to no question: entered or taken out, it changes no answer.
 use Prim.Native.Nat.{ℕ}
 use mathlib.Core.Path.{_≡_, refl, ap, ap₂, sym, _∙_, fun-ext}
-use mathlib.Core.Bool.{Bool, true, false, not, _&&_}
+use mathlib.Core.Bool.{true, false, not, _&&_}
 use mathlib.Core.List.{List, _∷_}
 use lib.Dec.{eqb}
 use Rattle.tables.specs.Count.{has, every, without, least}
 use Rattle.tables.proofs.Lists.{has-cons}
 use Rattle.tables.proofs.Least.{has-keep, least-keep}
-use Rattle.meaning.specs.Records.{TypeRecord, Rule, Book, Question, addRule, deleteRule, positive, negative}
+use Rattle.meaning.specs.Records.{Rule, Book, Question, addRule, deleteRule, positive, negative}
 use Rattle.meaning.specs.Keys.{isRule, ofRule}
 use Rattle.meaning.specs.Refusals.{conditions}
 use Rattle.meaning.specs.Edits.{withRules, edited}
 use Rattle.meaning.specs.Judging.{covers, tests, matches, ruleApplies, applies, named, deciding, judged}
-use Rattle.meaning.specs.Lone.{after}
 use Rattle.meaning.specs.Exercise.{WithoutRowsEntered, WithoutRowsDeleted}
 use Rattle.meaning.proofs.First.{command-not-refused}
 use Rattle.meaning.proofs.Keys.{rule-self}

@@ -19,6 +19,7 @@ use Rattle.meaning.specs.Records.{
   deleteRule,
   addRow,
   deleteRow,
+  ask,
   positive,
   negative,
 }
@@ -26,12 +27,12 @@ use Rattle.meaning.specs.Reading.{Reading, refused, asks, reading}
 use Rattle.meaning.specs.Keys.{isRule, ofRule}
 use Rattle.meaning.specs.Edits.{ruleMoved, rowMoved}
 use Rattle.meaning.specs.Judging.{by, nobody, ruleApplies, judged}
-use Rattle.meaning.specs.Lone.{answersFrom, after}
+use Rattle.meaning.specs.Lone.{step, answersFrom, after}
 use Rattle.meaning.specs.Sound.{soundLone}
 use Rattle.meaning.specs.SameBook.{SameBook}
 use Rattle.meaning.specs.declared.Deciding.{Deciding}
 use Rattle.meaning.specs.declared.Verdict.{Verdict}
-use Rattle.meaning.specs.declared.Answer.the-variants.{Taken}
+use Rattle.meaning.specs.declared.Answer.the-variants.{Taken, Judged}
 
 -- ---- lines that are taken
 
@@ -45,6 +46,12 @@ commandRead (asks l v) = some (commandOf l v)
 pub record Entered (b : Book) (lines : List (List ℕ)) (commands : List Command) : Type 0 where
   pub asked : map (λ line. commandRead (reading line)) lines ≡ map some commands
   pub taken : answersFrom b lines ≡ map (λ k. Taken) commands
+
+-- A line that asks a question is answered with its verdict: what is said below of `judged` is said of the answers.
+abbrev pub QuestionAnswered : Type 0
+QuestionAnswered =
+    (b : Book) (line : List ℕ) (q : Question) → commandRead (reading line) ≡ some (ask q)
+    → step b line .answer ≡ Judged (judged b q)
 
 -- the book holds exactly that rule: sequence, sign, criteria and days too
 unfoldable pub sameRule : Rule → Rule → Bool

@@ -1,15 +1,15 @@
 -- The least number of those that pass a test: it is reached, none is below it, and it does not change where the tests
 -- and numbers of the list's records do not.
-use Prim.Native.Nat.{ℕ, zero, suc, _+_, _-_, _≤_, _<_}
+use Prim.Native.Nat.{ℕ, zero, suc, _-_, _≤_, _<_}
 use mathlib.Core.Path.{_≡_, refl, ap, sym, _∙_}
 use mathlib.Core.Bool.{Bool, true, false, _&&_, not, cond, and-false, false≢true}
 use mathlib.Core.List.{List, [], _∷_}
 use native.Mathlib.Omega.{arith}
 use lib.Dec.{eqb, ltb, leb}
 use borrow.Author.Tests.{eqb-true, eq-eqb, leb-true, le-leb, leb-false, ltb-true, lt-ltb, lt-leb, not-true, ltb-false}
-use Rattle.tables.specs.Count.{bit, lesser, count, has, every, keep, alter, least}
+use Rattle.tables.specs.Count.{count, has, every, keep, alter, least}
 use Rattle.tables.proofs.Counts.{cases, cases-eq, both, ands, count-ext, count-keep, count-alter}
-use Rattle.tables.proofs.Lists.{low, low-least, has-true, has-false, true-has, every-none, every-both, every-map, every-any, some-of, count-under}
+use Rattle.tables.proofs.Lists.{low, low-least, has-true, has-false, true-has, every-none, every-both, every-any, some-of, count-under}
 
 -- what low says
 pub low-true : (k n : ℕ) → low k n ≡ true → (1 ≤ n) × (n ≤ k)

@@ -1,12 +1,11 @@
 -- A record that is taken out of a list and one that is changed in it: what is counted then.
-use Prim.Native.Nat.{ℕ, _+_, _≤_}
-use mathlib.Core.Path.{_≡_, refl, ap, sym, _∙_}
-use mathlib.Core.Bool.{Bool, true, false, _&&_, _||_, not, cond}
+use Prim.Native.Nat.{_+_, _≤_}
+use mathlib.Core.Path.{_≡_, refl, ap, _∙_}
+use mathlib.Core.Bool.{Bool, true, false, _&&_, not, cond}
 use mathlib.Core.List.{List, [], _∷_}
 use native.Mathlib.Omega.{arith}
-use Rattle.tables.specs.Count.{bit, count, has, every, keep, alter, without, Same}
-use Rattle.tables.proofs.Counts.{cases, both, count-ext, count-keep, count-alter, bit-none}
-use Rattle.tables.proofs.Lists.{has-true, count-under}
+use Rattle.tables.specs.Count.{bit, count, every, alter, without, Same}
+use Rattle.tables.proofs.Counts.{cases, both, count-ext, count-keep, count-alter}
 
 bit-rest : (s t : Bool) → (t ≡ true → s ≡ true) → bit t + bit (s && not t) ≤ bit s
 bit-rest s true h = rw (h refl) (omega arith)
