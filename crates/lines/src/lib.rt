@@ -8,8 +8,8 @@ ghost use Rattle.lines.specs.Many.{laid, Put, Turn, AnsweredBy, Answered
 ghost use Rattle.lines.specs.Sent.{SentLines};
 ghost use Rattle.lines.specs.Keeping.{Keeps};
 ghost use Rattle.lines.specs.Pieces.{atFirst, Piece, End};
-use meaning::Answer;
 use answering::answer;
+use meaning::Answer;
 use soundness::is_sound;
 use text::next_line;
 use text::print;
