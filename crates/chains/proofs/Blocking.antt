@@ -1,7 +1,7 @@
 -- A block of free places at once: bytes that are all 0 are free places, and the loop over the places may pass them over.
 use Prim.Native.Nat.{ℕ, zero, suc, _+_, _-_, _≤_, _<_}
 use mathlib.Core.Path.{_≡_, sym, _∙_}
-use mathlib.Core.Bool.{Bool, true, false≢true}
+use mathlib.Core.Bool.{Bool, true}
 use mathlib.Core.List.{List}
 use native.Mathlib.Omega.{arith}
 use lib.Dec.{eqb}
@@ -11,8 +11,7 @@ use Rattle.tables.specs.Bytes.{Width, total, byteAt, numbers, zeros}
 use Rattle.tables.proofs.Counts.{all-more, all-at}
 use Rattle.tables.proofs.Bytes.{numbers-same}
 use Rattle.tables.proofs.Zeros.{byte-zeros}
-use Rattle.chains.specs.Sizes.{blockPlaces}
-use Rattle.chains.specs.Chains.{right, Going, Block}
+use Rattle.chains.specs.Chains.{right, Going}
 use Rattle.chains.specs.Blocks.{zeroFrom}
 use Rattle.chains.proofs.Chaining.{chained-free, counted-free}
 
@@ -33,7 +32,8 @@ module _ (csd bucket : ℕ → ℕ) (places : ℕ) (free rest : ℕ → Bool) (p
   unfolding right
   free-right k z = rw z
 
-  going-over : (i m : ℕ) → Going csd bucket places (right csd free rest p q) i counts head next → i + m ≤ places
+  -- the m places from i on
+  pub going-over : (i m : ℕ) → Going csd bucket places (right csd free rest p q) i counts head next → i + m ≤ places
       → ((k : ℕ) → i ≤ k → k < i + m → free k ≡ true)
       → Going csd bucket places (right csd free rest p q) (i + m) counts head next
   going-over i zero g l f = let e : i + 0 ≡ i = omega arith in rw e g
@@ -48,8 +48,3 @@ module _ (csd bucket : ℕ → ℕ) (places : ℕ) (free rest : ℕ → Bool) (p
         counted = counted-free csd counts (i + m) (r .counted) (nobody (i + m) z);
         chained = chained-free csd bucket head next (i + m) (r .chained) (nobody (i + m) z);
       })
-
-  pub block-over : (i : ℕ) → Going csd bucket places (right csd free rest p q) i counts head next
-      → i + blockPlaces ≤ places → ((k : ℕ) → i ≤ k → k < i + blockPlaces → free k ≡ true)
-      → Block csd bucket places (right csd free rest p q) i true counts head next
-  block-over i g l f = record { going = λ y. going-over i blockPlaces g l f; fails = λ y. absurd (false≢true (sym y)) }

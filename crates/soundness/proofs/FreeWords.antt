@@ -1,18 +1,19 @@
 -- Free places by their words: words are 0 exactly if all their bytes are.
 use Prim.Native.Nat.{ℕ, zero, suc, _+_, _*_, _-_, _≤_, _<_}
 use mathlib.Core.Path.{_≡_, refl, sym, ap, _∙_}
-use mathlib.Core.Bool.{Bool, true, false, _&&_, and-assoc}
+use mathlib.Core.Bool.{Bool, true, false, _&&_, not, and-assoc, and-true, and-false}
 use mathlib.Core.List.{List, [], _∷_, _++_}
+use native.Mathlib.Nat.{mul-le-mul, add-mul}
 use native.Mathlib.Omega.{arith}
 use lib.Bits.{bitOr, and-le-l, and-le-r, or-add-and}
 use lib.Dec.{eqb, ltb}
-use lib.ListN.{getD}
-use borrow.Author.Tests.{eqb-true, eq-eqb, ltb-true, ltb-false}
+use lib.ListN.{length, getD}
+use borrow.Author.Tests.{eqb-true, eq-eqb, ltb-true, ltb-false, not-false}
 use Rattle.tables.specs.Bytes.{byteAt, Width, one, two, three, four, number, numbers}
 use Rattle.tables.specs.Count.{every, allBelow}
-use Rattle.tables.proofs.Counts.{cases, both, agree, all-none, all-at, all-put}
+use Rattle.tables.proofs.Counts.{cases, both, agree, all-at, all-put}
 use Rattle.chains.specs.Sizes.{blockPlaces}
-use Rattle.chains.specs.Blocks.{zeroFrom}
+use Rattle.chains.specs.Blocks.{zeroFrom, Wide, FreeFirst}
 use Rattle.records.specs.Free.{allZero, typeZero, ruleZero, rowZero, periodZero}
 use Rattle.soundness.specs.Reads.{typeRead, ruleRead, rowRead, periodRead, eightAt}
 use Rattle.soundness.specs.Buckets.{frontWord, tailWord}
@@ -87,7 +88,7 @@ module _ (b : List ℕ) (at : ℕ) where
       )
       (zero-split (numbers kindWidths b at 0 ++ numbers (three ∷ []) b at 2) (numbers (two ∷ []) b at 5 ++ numbers dayWidths b at 7))
 
--- ---- a block of places
+-- ---- words and their bytes
 
 or-zero : (x w : ℕ) → eqb (bitOr x w) 0 ≡ (eqb x 0 && eqb w 0)
 or-zero x w =
@@ -129,47 +130,157 @@ module _ (b : List ℕ) (at : ℕ) where
       let high = four-none (m + 4) (λ i l. let z : m + (4 + i) ≡ m + 4 + i = omega arith in rw z at (h (4 + i) (omega arith))) in
       omega (arith, low, high)
 
-  pub zero-none : true ≡ zeroFrom b at (8 * 0)
-  unfolding zeroFrom
-  zero-none = sym (all-none (λ j. eqb (getD b (at + j) 0) 0))
+-- ---- runs of zeros
 
-  -- eight bytes more
-  pub zero-more : (x w j : ℕ) → eqb x 0 ≡ zeroFrom b at (8 * j) → w ≡ eightAt b at (8 * j)
-      → eqb (bitOr x w) 0 ≡ zeroFrom b at (8 * (j + 1))
+module _ (b : List ℕ) where
+  -- two runs that meet or lap
+  zero-lap : (at m k l : ℕ) → k ≤ m → m ≤ k + l
+      → (zeroFrom b at m && zeroFrom b (at + k) l) ≡ zeroFrom b at (k + l)
   unfolding zeroFrom
-  zero-more x w j e f =
-      or-zero x w ∙ agree (eqb x 0 && eqb w 0) (zeroFrom b at (8 * (j + 1))) (λ t. forth t) (λ t. back t)
+  zero-lap at m k l low high =
+      agree (zeroFrom b at m && zeroFrom b (at + k) l) (zeroFrom b at (k + l)) (λ t. forth t) (λ t. back t)
     where
-      p : ℕ → Bool
-      p k = eqb (getD b (at + k) 0) 0
+      p : ℕ → ℕ → Bool
+      p from j = eqb (getD b (from + j) 0) 0
 
-      forth : (eqb x 0 && eqb w 0) ≡ true → allBelow p (8 * (j + 1)) ≡ true
+      forth : (zeroFrom b at m && zeroFrom b (at + k) l) ≡ true → allBelow (p at) (k + l) ≡ true
       forth t =
-          let h = both (eqb x 0) (eqb w 0) t in
-          all-put p (8 * (j + 1))
-          (λ k l.
-          cases (ltb k (8 * j)) (λ s. all-at p (8 * j) (sym e ∙ h .0) k (ltb-true k (8 * j) s))
+          let h = both (zeroFrom b at m) (zeroFrom b (at + k) l) t in
+          all-put (p at) (k + l)
+          (λ i u.
+          cases (ltb i m) (λ s. all-at (p at) m (h .0) i (ltb-true i m s))
           (λ s.
-          let g = ltb-false k (8 * j) s in
-          let z : 8 * j + (k - 8 * j) ≡ k = omega (arith, g) in
-          eq-eqb (getD b (at + k) 0) 0
-          (rw z at (eight-bytes (8 * j) (sym f ∙ eqb-true w 0 (h .1)) (k - 8 * j) (omega (arith, g, l))))))
+          let g = ltb-false i m s in
+          let z : at + k + (i - k) ≡ at + i = omega (arith, g) in
+          rw z at (all-at (p (at + k)) l (h .1) (i - k) (omega (arith, g, u)))))
 
-      back : allBelow p (8 * (j + 1)) ≡ true → (eqb x 0 && eqb w 0) ≡ true
+      back : allBelow (p at) (k + l) ≡ true → (zeroFrom b at m && zeroFrom b (at + k) l) ≡ true
       back t =
-          let low : eqb x 0 ≡ true = e ∙ all-put p (8 * j) (λ k l. all-at p (8 * (j + 1)) t k (omega (arith, l))) in
-          let high : w ≡ 0 =
-          f ∙ eight-none (8 * j) (λ i l. eqb-true (byteAt b (at + (8 * j + i))) 0 (all-at p (8 * (j + 1)) t (8 * j + i) (omega (arith, l)))) in
-          rw (low, eq-eqb w 0 high)
+          let x : zeroFrom b at m ≡ true = all-put (p at) m (λ i u. all-at (p at) (k + l) t i (omega (arith, u))) in
+          let y : zeroFrom b (at + k) l ≡ true =
+          all-put (p (at + k)) l
+          (λ i u.
+          let z : at + (k + i) ≡ at + k + i = omega arith in
+          rw z at (all-at (p at) (k + l) t (k + i) (omega (arith, u)))) in
+          rw (x, y)
 
-  -- the first byte is that of a record
-  pub block-used : {x : ℕ} (width : ℕ) → x ≡ number one b at 0 → (x ≡ 0 → ⊥) → 0 < width
-      → false ≡ zeroFrom b at (blockPlaces * width)
+  zero-join : (at m l : ℕ) → (zeroFrom b at m && zeroFrom b (at + m) l) ≡ zeroFrom b at (m + l)
+  zero-join at m l = zero-lap at m m l (omega arith) (omega arith)
+
+  -- a word
+  eight-zero : (at m w : ℕ) → w ≡ eightAt b at m → eqb w 0 ≡ zeroFrom b (at + m) 8
   unfolding zeroFrom
-  block-used {x} width e n l =
-      cases (zeroFrom b at (blockPlaces * width))
-      (λ t. absurd (n (e ∙ eqb-true (getD b (at + 0) 0) 0 (all-at (λ j. eqb (getD b (at + j) 0) 0) (blockPlaces * width) t 0 (omega (arith, l))))))
-      sym
+  eight-zero at m w e =
+      agree (eqb w 0) (zeroFrom b (at + m) 8)
+      (λ t.
+      all-put (λ j. eqb (getD b (at + m + j) 0) 0) 8
+      (λ i l.
+      let z : at + (m + i) ≡ at + m + i = omega arith in
+      eq-eqb (getD b (at + m + i) 0) 0 (rw z at (eight-bytes b at m (sym e ∙ eqb-true w 0 t) i l))))
+      (λ t.
+      eq-eqb w 0
+      (e
+      ∙ eight-none b at m
+      (λ i l.
+      let z : at + m + i ≡ at + (m + i) = omega arith in
+      rw z at (eqb-true (getD b (at + m + i) 0) 0 (all-at (λ j. eqb (getD b (at + m + j) 0) 0) 8 t i l)))))
 
-  pub block-free : (width : ℕ) {r : Bool} → r ≡ zeroFrom b at (8 * (4 * width)) → r ≡ zeroFrom b at (blockPlaces * width)
-  block-free width e = let z : 8 * (4 * width) ≡ blockPlaces * width = omega arith in rw z at e
+  zero-more : (at w j : ℕ) → w ≡ eightAt b at (8 * j) → (zeroFrom b at (8 * j) && eqb w 0) ≡ zeroFrom b at (8 * (j + 1))
+  zero-more at w j e =
+      let s : 8 * j + 8 ≡ 8 * (j + 1) = omega arith in
+      rw (eight-zero at (8 * j) w e, zero-join at (8 * j) 8, s)
+
+-- ---- `runs_zero`
+
+and-eight : (p q r s x y z w : Bool)
+    → (((((((p && q) && r) && s) && x) && y) && z) && w) ≡ ((((p && x) && (q && y)) && (r && z)) && (s && w))
+and-eight true true true true x y z w = refl
+and-eight true true true false x y z w = rw and-false
+and-eight true true false s x y z w = rw and-false
+and-eight true false r s x y z w = rw and-false
+and-eight false q r s x y z w = refl
+
+module _ (b : List ℕ) where
+  -- the first j words of four runs
+  abbrev pub runsZero : ℕ → ℕ → ℕ → ℕ → ℕ → Bool
+  runsZero at second third fourth j = ((zeroFrom b at (8 * j) && zeroFrom b second (8 * j)) && zeroFrom b third (8 * j)) && zeroFrom b fourth (8 * j)
+
+  pub runs-none : (at second third fourth : ℕ) → true ≡ runsZero at second third fourth 0
+  unfolding zeroFrom allBelow
+  runs-none at second third fourth = refl
+
+  pub runs-more : (at second third fourth x k j : ℕ) {u v w y : ℕ} → u ≡ eightAt b at k → v ≡ eightAt b second k
+      → w ≡ eightAt b third k → y ≡ eightAt b fourth k → k ≡ 8 * j → eqb x 0 ≡ runsZero at second third fourth j
+      → eqb (bitOr (bitOr (bitOr (bitOr x u) v) w) y) 0 ≡ runsZero at second third fourth (j + 1)
+  runs-more at second third fourth x k j {u} {v} {w} {y} e f g h s i =
+      rw (or-zero (bitOr (bitOr (bitOr x u) v) w) y, or-zero (bitOr (bitOr x u) v) w, or-zero (bitOr x u) v, or-zero x u, i)
+      (and-eight (zeroFrom b at (8 * j)) (zeroFrom b second (8 * j)) (zeroFrom b third (8 * j)) (zeroFrom b fourth (8 * j)) (eqb u 0) (eqb v 0) (eqb w 0) (eqb y 0)
+      ∙ rw (zero-more b at u j (rw s at e), zero-more b second v j (rw s at f), zero-more b third w j (rw s at g), zero-more b fourth y j (rw s at h)))
+
+  pub runs-end : (at n second third fourth x j : ℕ) → eqb x 0 ≡ runsZero at second third fourth j → j ≡ n
+      → second ≡ at + 8 * n → third ≡ at + 16 * n → fourth ≡ at + 24 * n → eqb x 0 ≡ zeroFrom b at (blockPlaces * n)
+  runs-end at n second third fourth x j e i f g h =
+      let y : third ≡ at + (8 * n + 8 * n) = g ∙ omega arith in
+      let z : fourth ≡ at + (8 * n + 8 * n + 8 * n) = h ∙ omega arith in
+      let s : 8 * n + 8 * n + 8 * n + 8 * n ≡ blockPlaces * n = omega arith in
+      rw (i, f, y, z, zero-join b at (8 * n) (8 * n), zero-join b at (8 * n + 8 * n) (8 * n), zero-join b at (8 * n + 8 * n + 8 * n) (8 * n), s) at e
+
+-- ---- `width_free`
+
+and-turned : (p s q r : Bool) → (((p && s) && q) && r) ≡ ((p && q) && (r && s))
+and-turned true true q r = rw and-true
+and-turned true false q r = rw (and-false, and-false)
+and-turned false s q r = refl
+
+module _ (b : List ℕ) (at width : ℕ) (h : Wide width) {x y : ℕ} (e : x ≡ eightAt b at 0) (f : y ≡ eightAt b at (width - 8)) where
+  pub width-short : width ≤ 16 → eqb (bitOr x y) 0 ≡ zeroFrom b at width
+  width-short l =
+      let z : at + 0 ≡ at = omega arith in
+      let s : width - 8 + 8 ≡ width = omega (arith, h .least) in
+      rw (or-zero x y, eight-zero b at 0 x e, eight-zero b at (width - 8) y f, z, zero-lap b at 8 (width - 8) 8 (omega arith) (omega arith), s)
+
+  pub width-long : {u v : ℕ} → u ≡ eightAt b at 8 → v ≡ eightAt b at (width - 16) → 16 < width
+      → eqb (bitOr (bitOr (bitOr x y) u) v) 0 ≡ zeroFrom b at width
+  width-long {u} {v} g i l =
+      let z : at + 0 ≡ at = omega arith in
+      let t : at + (width - 8) ≡ at + (width - 16) + 8 = omega arith in
+      let s : width - 16 + 16 ≡ width = omega arith in
+      rw (or-zero (bitOr (bitOr x y) u) v, or-zero (bitOr x y) u, or-zero x y, and-turned (eqb x 0) (eqb y 0) (eqb u 0) (eqb v 0))
+      (rw (eight-zero b at 0 x e, eight-zero b at (width - 8) y f, eight-zero b at 8 u g, eight-zero b at (width - 16) v i, z, t, zero-join b at 8 8, zero-join b (at + (width - 16)) 8 8)
+      (rw s at (zero-lap b at 16 (width - 16) 16 (omega (arith, h .most)) (omega arith))))
+
+-- ---- `count_free` and `free_first`
+
+module _ (b : List ℕ) (from width : ℕ) where
+  pub first-none : FreeFirst b from width 0
+  unfolding zeroFrom allBelow
+  first-none = record { few = omega arith; free = let z : 0 * width ≡ 0 = omega arith in rw z }
+
+  pub first-all : (r : Bool) → r ≡ zeroFrom b from (blockPlaces * width) → r ≡ true → FreeFirst b from width blockPlaces
+  first-all r e f = record { few = omega arith; free = sym e ∙ f }
+
+  -- a place but the last, and what follows it, ends within the block
+
+  pub first-byte : (at n : ℕ) → n * width ≤ (blockPlaces - 1) * width → at ≡ from + n * width
+      → from + blockPlaces * width ≤ length b → Wide width → at + (0 + 1) ≤ length b
+  first-byte at n l e h w = omega (arith, w .least)
+
+  pub first-few : (n : ℕ) → n < blockPlaces - 1 → (n + 1) * width ≤ (blockPlaces - 1) * width
+  first-few n l =
+      let u : n + 1 ≤ blockPlaces - 1 = omega arith in
+      let w : width ≤ width = omega arith in
+      mul-le-mul u w
+
+  pub first-more : (at n : ℕ) (r : Bool) → r ≡ zeroFrom b at width → not r ≡ false → at ≡ from + n * width
+      → n < blockPlaces - 1 → FreeFirst b from width n → FreeFirst b from width (n + 1)
+  first-more at n r e f g l m = record {
+    few = omega arith;
+    free =
+        let s : n * width + width ≡ (n + 1) * width = omega (arith, add-mul n 1 width) in
+        let z : zeroFrom b (from + n * width) width ≡ true = rw g at (sym e ∙ not-false r f) in
+        let y : (zeroFrom b from (n * width) && zeroFrom b (from + n * width) width) ≡ true = rw (m .free) z in
+        rw s at (sym (zero-join b from (n * width) width) ∙ y);
+  }
+
+  pub first-at : (at n : ℕ) → at ≡ from + n * width → at + width ≡ from + (n + 1) * width
+  first-at at n e = omega (arith, add-mul n 1 width)

@@ -10,7 +10,7 @@ use Rattle.tables.proofs.Zeros.{numbers-zeros}
 use Rattle.places.specs.Layout.{bookSize, typeWidths, typeFrom, ruleWidths, ruleFrom, rowWidths, rowFrom, periodWidths, periodFrom}
 use Rattle.records.specs.Free.{allZero, typeZero, ruleZero, rowZero, periodZero}
 use Rattle.chains.specs.Sizes.{buckets, mostPlaces, blockPlaces}
-use Rattle.chains.specs.Blocks.{zeroFrom}
+use Rattle.chains.specs.Blocks.{zeroFrom, Wide}
 use Rattle.chains.proofs.Blocking.{zero-numbers}
 use Rattle.soundness.specs.Reads.{typeRead, ruleRead, rowRead, periodRead}
 use Rattle.soundness.specs.Kinds.{tableOf, addressOf, csdAt, freeAt, bucketAt, alikeAt, fitAt}
@@ -48,11 +48,11 @@ kind-own Kinds.Rules = refl
 kind-own Kinds.Rows = refl
 kind-own Kinds.Periods = refl
 
-pub kind-wide : (kind : Kind) → 1 ≤ tableOf kind .width
-kind-wide Kinds.Types = omega arith
-kind-wide Kinds.Rules = omega arith
-kind-wide Kinds.Rows = omega arith
-kind-wide Kinds.Periods = omega arith
+pub kind-wide : (kind : Kind) → Wide (tableOf kind .width)
+kind-wide Kinds.Types = record { least = omega arith; most = omega arith }
+kind-wide Kinds.Rules = record { least = omega arith; most = omega arith }
+kind-wide Kinds.Rows = record { least = omega arith; most = omega arith }
+kind-wide Kinds.Periods = record { least = omega arith; most = omega arith }
 
 -- Blocks of places fill the table, and each ends within the book.
 
@@ -70,12 +70,12 @@ kind-block Kinds.Rules i l = omega arith
 kind-block Kinds.Rows i l = omega arith
 kind-block Kinds.Periods i l = omega arith
 
-pub kind-among : (kind : Kind) (i k : ℕ) → i ≤ k → k < i + blockPlaces
-    → (addressOf kind i ≤ addressOf kind k) × (addressOf kind k + tableOf kind .width ≤ addressOf kind i + blockPlaces * tableOf kind .width)
-kind-among Kinds.Types i k l h = (omega arith, omega arith)
-kind-among Kinds.Rules i k l h = (omega arith, omega arith)
-kind-among Kinds.Rows i k l h = (omega arith, omega arith)
-kind-among Kinds.Periods i k l h = (omega arith, omega arith)
+pub kind-among : (kind : Kind) (i k n : ℕ) → i ≤ k → k < i + n
+    → (addressOf kind i ≤ addressOf kind k) × (addressOf kind k + tableOf kind .width ≤ addressOf kind i + n * tableOf kind .width)
+kind-among Kinds.Types i k n l h = (omega arith, omega arith)
+kind-among Kinds.Rules i k n l h = (omega arith, omega arith)
+kind-among Kinds.Rows i k n l h = (omega arith, omega arith)
+kind-among Kinds.Periods i k n l h = (omega arith, omega arith)
 
 -- A place ends within the book.
 pub kind-within : (kind : Kind) (i : ℕ) → i < tableOf kind .places → addressOf kind i + tableOf kind .width ≤ bookSize

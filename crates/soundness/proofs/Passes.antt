@@ -11,10 +11,10 @@ use Rattle.tables.specs.Below.{anyBelow}
 use Rattle.tables.proofs.Counts.{cases}
 use Rattle.places.specs.Layout.{bookSize}
 use Rattle.chains.specs.Sizes.{buckets, mostPlaces, blockPlaces}
-use Rattle.chains.specs.Blocks.{zeroFrom}
+use Rattle.chains.specs.Blocks.{zeroFrom, Wide, FreeFirst}
 use Rattle.chains.specs.Chains.{Tallied, Entered, Ready, Passed, Going, Block, AllPassed}
 use Rattle.chains.proofs.ChainPassing.{passed-free, passed-over, passed-unfit, passed-held, passed-entered, going-on, block-fails, blocks-fail, going-end}
-use Rattle.chains.proofs.Blocking.{block-over}
+use Rattle.chains.proofs.Blocking.{going-over}
 use Rattle.soundness.specs.Kinds.{tableOf, addressOf, PlaceOf, csdAt, freeAt, bucketAt, fitAt, loneAt, csdOf, freeOf, bucketOf, sameOf, fitOf, rightOf, OwnersChained}
 use Rattle.soundness.specs.declared.kinds.Kind.{Kind}
 use Rattle.soundness.specs.declared.kinds.Table.{Table}
@@ -141,7 +141,7 @@ module _ (b : List ℕ) (t : Table) (from : ℕ) (p : PlaceOf b t from) (h : fro
       let f : t .width ≡ tableOf (t .kind) .width = ap (λ x. x .width) (p .table) in
       rw f (omega (arith, place-at t from at e (p .table), kind-block (t .kind) from l, p .sized))
 
-  pub block-wide : 0 < t .width
+  pub block-wide : Wide (t .width)
   block-wide = rw (p .table) (kind-wide (t .kind))
 
   pub block-place : (i : ℕ) → i < from + blockPlaces → PlaceOf b t i
@@ -168,20 +168,20 @@ module _ (b : List ℕ) (t : Table) (from : ℕ) (p : PlaceOf b t from) (h : fro
   block-failed i r counts head next m f u =
       block-fails (csdOf b (t .kind)) (bucketOf b (t .kind)) (tableOf (t .kind) .places) (rightOf b (t .kind)) from i r counts head next m f u l
 
-  -- A block of places whose bytes are all 0 are free.
-  pub block-free : (at : ℕ) (r : Bool) (counts head next : List ℕ) → r ≡ zeroFrom b at (blockPlaces * t .width)
-      → r ≡ true → at ≡ t .start + from * t .width
+  -- The places at a block's start whose bytes are all 0 are free.
+  pub block-first : (at r : ℕ) (counts head next : List ℕ) → FreeFirst b at (t .width) r
+      → at ≡ t .start + from * t .width
       → Going (csdOf b (t .kind)) (bucketOf b (t .kind)) (tableOf (t .kind) .places) (rightOf b (t .kind)) from counts head next
-      → Block (csdOf b (t .kind)) (bucketOf b (t .kind)) (tableOf (t .kind) .places) (rightOf b (t .kind)) from true counts head next
+      → Going (csdOf b (t .kind)) (bucketOf b (t .kind)) (tableOf (t .kind) .places) (rightOf b (t .kind)) (from + r) counts head next
   unfolding csdOf freeOf rightOf
-  block-free at r counts head next e f ea g =
+  block-first at r counts head next n ea g =
       let w : t .width ≡ tableOf (t .kind) .width = ap (λ x. x .width) (p .table) in
-      let z : zeroFrom b (addressOf (t .kind) from) (blockPlaces * tableOf (t .kind) .width) ≡ true = rw (place-at t from at ea (p .table), w) at (sym e ∙ f) in
-      block-over (csdOf b (t .kind)) (bucketOf b (t .kind)) (tableOf (t .kind) .places) (freeOf b (t .kind)) (fitOf b (t .kind)) (sameOf b (t .kind)) (tableOf (t .kind) .quota)
-      (λ k y. kind-nobody b (t .kind) (addressOf (t .kind) k) y) counts head next from g l
+      let z : zeroFrom b (addressOf (t .kind) from) (r * tableOf (t .kind) .width) ≡ true = rw (place-at t from at ea (p .table), w) at (n .free) in
+      going-over (csdOf b (t .kind)) (bucketOf b (t .kind)) (tableOf (t .kind) .places) (freeOf b (t .kind)) (fitOf b (t .kind)) (sameOf b (t .kind)) (tableOf (t .kind) .quota)
+      (λ k y. kind-nobody b (t .kind) (addressOf (t .kind) k) y) counts head next from r g (omega (arith, n .few, l))
       (λ k low high.
-      let a = kind-among (t .kind) from k low high in
-      kind-zero b (t .kind) (addressOf (t .kind) from) (blockPlaces * tableOf (t .kind) .width) (addressOf (t .kind) k) z (a .0) (a .1))
+      let a = kind-among (t .kind) from k r low high in
+      kind-zero b (t .kind) (addressOf (t .kind) from) (r * tableOf (t .kind) .width) (addressOf (t .kind) k) z (a .0) (a .1))
 
 -- ---- `all`
 

@@ -197,7 +197,7 @@ module _ (b : List ℕ) (t : Table) (i : ℕ) where
   own-within at e p = held-within i at e p (omega arith)
 
   pub first-within : (at : ℕ) → at ≡ t .start + i * t .width → PlaceOf b t i → at < length b
-  first-within at e p = omega (arith, own-within at e p, kind-wide (t .kind))
+  first-within at e p = omega (arith, own-within at e p, kind-wide (t .kind) .least)
 
   pub other-within : (j at : ℕ) → at ≡ t .start + (j - 1) * t .width → PlaceOf b t i → HeldTo j
       → at + tableOf (t .kind) .width ≤ length b

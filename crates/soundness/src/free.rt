@@ -7,11 +7,12 @@ use crate::words::one;
 use crate::words::three;
 use crate::words::two;
 use basics::and;
+use chains::BLOCK;
 ghost use mathlib.Core.Path.{_≡_};
 ghost use Prim.Native.Nat.{_+_, _*_, _≤_, _<_};
 ghost use lib.ListN.{length};
 ghost use Rattle.chains.specs.Sizes.{blockPlaces};
-ghost use Rattle.chains.specs.Blocks.{zeroFrom};
+ghost use Rattle.chains.specs.Blocks.{zeroFrom, FreeFirst, Wide};
 ghost use Rattle.places.specs.Layout.{typeWidth, ruleWidth, rowWidth, periodWidth};
 ghost use Rattle.records.specs.Free.{typeZero, ruleZero, rowZero, periodZero};
 ghost use Rattle.soundness.specs.Reads.{typeRead, ruleRead, rowRead, periodRead};
@@ -47,29 +48,69 @@ pub(crate) fn period_free(b: &[u8], at: usize) -> bool
     and(of, and(two(b, at, 5) == 0, eight(b, at, 7) == 0))
 }
 
-// ---- A block of places at once.
+// ---- The free places at a block's start.
 
-// Whether n times eight bytes from an index on are all 0.
-fn words_zero(b: &[u8], from: usize, n: usize) -> bool
-    requires { ⌜ from + 8 * n ≤ length (now b) ⌝ }
-    ensures { λ r. ⌜ r ≡ zeroFrom (now (b .entry)) from (8 * n) ⌝ }
+// Whether 32 times n bytes from an index on are all 0: four runs of n words each, side by side.
+fn runs_zero(b: &[u8], from: usize, n: usize) -> bool
+    requires { ⌜ from + blockPlaces * n ≤ length (now b) ⌝ }
+    ensures { λ r. ⌜ r ≡ zeroFrom (now (b .entry)) from (blockPlaces * n) ⌝ }
 {
+    let second = from + 8 * n;
+    let third = from + 16 * n;
+    let fourth = from + 24 * n;
     let mut x: u64 = 0;
     for j in 0..n {
-        x = x | eight(b, from, 8 * j);
+        let k = 8 * j;
+        x = x | eight(b, from, k) | eight(b, second, k) | eight(b, third, k) | eight(b, fourth, k);
     }
     x == 0
 }
 
-// Whether a block of places of a width is free: four times the width is how many times eight bytes its 32 places have. A
-// first byte that is not 0 answers at once.
-pub(crate) fn block_free(b: &[u8], from: usize, width: usize) -> bool
-    requires { ⌜ 0 < width ⌝ }
+// Whether a place of a width is free: a word at each end, two where it has more than 16 bytes.
+fn width_free(b: &[u8], at: usize, width: usize) -> bool
+    requires { ⌜ Wide width ⌝ }
+    requires { ⌜ at + width ≤ length (now b) ⌝ }
+    ensures { λ r. ⌜ r ≡ zeroFrom (now (b .entry)) at width ⌝ }
+{
+    let ends = eight(b, at, 0) | eight(b, at, width - 8);
+    if width <= 16 {
+        return ends == 0;
+    }
+    ends | eight(b, at, 8) | eight(b, at, width - 16) == 0
+}
+
+// How many places at a block's start are free, counted one by one but for the last.
+fn count_free(b: &[u8], from: usize, width: usize) -> u16
+    requires { ⌜ Wide width ⌝ }
     requires { ⌜ from + blockPlaces * width ≤ length (now b) ⌝ }
-    ensures { λ r. ⌜ r ≡ zeroFrom (now (b .entry)) from (blockPlaces * width) ⌝ }
+    ensures { λ r. ⌜ FreeFirst (now (b .entry)) from width r ⌝ }
+{
+    let mut n: u16 = 0;
+    let mut at = from;
+    while n < BLOCK - 1 {
+        if one(b, at, 0) != 0 {
+            return n;
+        }
+        if !width_free(b, at, width) {
+            return n;
+        }
+        at += width;
+        n += 1;
+    }
+    n
+}
+
+// The same, at once where the first place is used, and all of them where they are free.
+pub(crate) fn free_first(b: &[u8], from: usize, width: usize) -> u16
+    requires { ⌜ Wide width ⌝ }
+    requires { ⌜ from + blockPlaces * width ≤ length (now b) ⌝ }
+    ensures { λ r. ⌜ FreeFirst (now (b .entry)) from width r ⌝ }
 {
     if one(b, from, 0) != 0 {
-        return false;
+        return 0;
     }
-    words_zero(b, from, 4 * width)
+    if runs_zero(b, from, width) {
+        return BLOCK;
+    }
+    count_free(b, from, width)
 }

@@ -14,7 +14,7 @@ use chains::BUCKETS;
 use chains::no_counts;
 use chains::no_heads;
 use chains::no_links;
-use free::block_free;
+use free::free_first;
 use kinds::Kind;
 use kinds::Table;
 use kinds::alike;
@@ -125,11 +125,12 @@ fn pass(
 
 // ---- The places of a table.
 
-// A block of places from one on, one after the other.
+// A block of places from one on, one after the other, but for the first ones, which are free.
 fn pass_each(
     b: &[u8],
     t: Table,
     from: u16,
+    free: u16,
     starts: &[u16],
     links: &[u16],
     counts: &mut [u16],
@@ -138,11 +139,12 @@ fn pass_each(
 ) -> bool
     requires { ⌜ PlaceOf (now b) t from ⌝ }
     requires { ⌜ from + blockPlaces ≤ t .places ⌝ }
+    requires { ⌜ free ≤ blockPlaces ⌝ }
     requires { ⌜ OwnersChained (now b) (t .kind) (now starts) (now links) ⌝ }
-    requires { ⌜ Going (csdOf (now b) (t .kind)) (bucketOf (now b) (t .kind)) (tableOf (t .kind) .places) (rightOf (now b) (t .kind)) from (now counts) (now head) (now next) ⌝ }
+    requires { ⌜ Going (csdOf (now b) (t .kind)) (bucketOf (now b) (t .kind)) (tableOf (t .kind) .places) (rightOf (now b) (t .kind)) (from + free) (now counts) (now head) (now next) ⌝ }
     ensures { λ r. ⌜ Block (csdOf (now (b .entry)) (t .kind)) (bucketOf (now (b .entry)) (t .kind)) (tableOf (t .kind) .places) (rightOf (now (b .entry)) (t .kind)) from r (now (counts .exit)) (now (head .exit)) (now (next .exit)) ⌝ }
 {
-    for i in from..from + BLOCK {
+    for i in from + free..from + BLOCK {
         if !pass(b, t, i, starts, links, counts, head, next) {
             return false;
         }
@@ -150,7 +152,7 @@ fn pass_each(
     true
 }
 
-// A block of places; at once where they are all zero.
+// A block of places; those at its start that are free, at once.
 fn pass_block(
     b: &[u8],
     t: Table,
@@ -168,10 +170,8 @@ fn pass_block(
     ensures { λ r. ⌜ Block (csdOf (now (b .entry)) (t .kind)) (bucketOf (now (b .entry)) (t .kind)) (tableOf (t .kind) .places) (rightOf (now (b .entry)) (t .kind)) from r (now (counts .exit)) (now (head .exit)) (now (next .exit)) ⌝ }
 {
     let at = address(t.start, t.width, from) as usize;
-    if block_free(b, at, t.width as usize) {
-        return true;
-    }
-    pass_each(b, t, from, starts, links, counts, head, next)
+    let free = free_first(b, at, t.width as usize);
+    pass_each(b, t, from, free, starts, links, counts, head, next)
 }
 
 // All places of a table, whose owners' chains are lent; its own are left to the caller.

@@ -11,10 +11,10 @@ use Rattle.soundness.proofs.pass_each.Statement.{statement}
 use Rattle.soundness.proofs.pass_each.Tie as tie
 
 abbrev Inv-loop : tie.InvT-loop
-Inv-loop b t from starts links counts₀ head₀ next₀ i₀ i-end counts head next i = (i ≤ from + blockPlaces) × Going (csdOf b (t .kind)) (bucketOf b (t .kind)) (tableOf (t .kind) .places) (rightOf b (t .kind)) i counts head next
+Inv-loop b t from free starts links counts₀ head₀ next₀ i₀ i-end counts head next i = (i ≤ from + blockPlaces) × Going (csdOf b (t .kind)) (bucketOf b (t .kind)) (tableOf (t .kind) .places) (rightOf b (t .kind)) i counts head next
 
 abbrev μ-loop : tie.MeasureT-loop
-μ-loop b t from starts links counts₀ head₀ next₀ i₀ i-end counts head next i = from + blockPlaces - i
+μ-loop b t from free starts links counts₀ head₀ next₀ i₀ i-end counts head next i = from + blockPlaces - i
 
 pub pass-each-spec : {M : Type 1} → statement M
 pass-each-spec =
@@ -22,6 +22,7 @@ pass-each-spec =
     (tie.spec
     Inv-loop
     μ-loop
+    (λ c. omega arith)
     (λ c. omega arith)
     (λ c. (omega arith, search needs))
     (λ c κs. (search block-place, (search needs, search block-ready)))
