@@ -1,19 +1,23 @@
 -- The desk's loop hands an input in pieces to `lines`.
 use Prim.Native.Nat.{ℕ, _+_, _*_, _≤_, _<_}
 use mathlib.Core.Path.{_≡_, refl, sym, ap, _∙_}
-use mathlib.Core.Bool.{Bool, true}
+use mathlib.Core.Bool.{true, cond}
 use mathlib.Core.List.{List, [], _∷_, _++_, append-nil}
 use native.Mathlib.Omega.{arith}
 use native.Mathlib.Nat.{add-zero}
 use lib.ListN.{length, take, drop, length-take, length-drop}
 use lib.Seq.{length-take-le, take-add}
+use borrow.Author.Tests.{eq-eqb}
+use Rattle.places.specs.Layout.{bookSize}
+use Rattle.book.specs.Emptied.{emptyAnswer, Emptied}
 use Rattle.lines.specs.Ended.{begun, short}
 use Rattle.lines.specs.Pieces.{atFirst, Piece, End}
 use Rattle.lines.specs.Whole.{Fed, last, more}
 use Rattle.lines.specs.declared.Desk.{Desk}
 use Rattle.lines.specs.declared.Step.{Step}
 use Rattle.lines.proofs.LinesCallers.{has-room}
-use Rattle.desk.specs.Loop.{Behind, Hands, Ends, Input}
+use Rattle.lines.proofs.WholeText.{desk-alone}
+use Rattle.desk.specs.Loop.{Behind, Hands, Ends, Input, OneInput}
 
 pub not-done : {A : Type 0} (s : ℕ) → (s ≡ 48 → ⊥) → s ≡ 48 → A
 not-done s f e = absurd (f e)
@@ -73,3 +77,12 @@ module _ {b₀ t₀ o₀ b t o t₁ : List ℕ} {d : Desk} {n : ℕ} (g : Going 
         text-size = y ∙ j ∙ g .text-size;
         out-size = z ∙ g .out-size;
       }
+
+-- ---- an input over a book that was emptied
+
+pub one-input : {lent emptied text after : List ℕ} {r : ℕ} (s : ℕ) → (s ≡ 48 → Input emptied text after) → Emptied lent emptied r → length lent ≡ bookSize → s ≡ 48 → OneInput
+unfolding emptyAnswer
+one-input {lent} {emptied} {text} {after} {r} s f e n d =
+    let i = f d in
+    let z : r ≡ 0 = e .answered ∙ ap (λ q. cond q 0 1) (eq-eqb (length lent) bookSize n) in
+    record { pieces = i .pieces; written = i .written; alone = desk-alone lent emptied (rw z at e) text (i .pieces) (i .written) after (i .fed) }

@@ -45,7 +45,7 @@ pub every-text : EveryText
 every-text d b t [] =
     let stands = take (d .held) t in
     let s : End d b t (space stands (lastLine stands) [] d b t) (result stands (lastLine stands) [] d b t) (bookBy (d .sound) b (lastLine stands)) (laid (space stands (lastLine stands) [] d b t) 0 (answers stands (lastLine stands) [] d b t)) =
-        rw (← laid-none t 0) at (step stands (lastLine stands) [] d b t) in
+    rw (← laid-none t 0) at (step stands (lastLine stands) [] d b t) in
     record { written = _; after = _; fed = last (ap (λ k. take k t) (add-zero (d .held)) ∙ sym (append-nil (take (d .held) t))) s refl }
 every-text d b t (piece ∷ pieces) =
     let t₁ = take (d .held) t ++ piece in
