@@ -1,7 +1,7 @@
 -- The desk's loop hands an input in pieces to `lines`.
-use Prim.Native.Nat.{ℕ, _+_, _*_, _≤_, _<_}
+use Prim.Native.Nat.{ℕ, _+_, _*_, _≤_}
 use mathlib.Core.Path.{_≡_, refl, sym, ap, _∙_}
-use mathlib.Core.Bool.{true, cond}
+use mathlib.Core.Bool.{cond}
 use mathlib.Core.List.{List, [], _∷_, _++_, append-nil}
 use native.Mathlib.Omega.{arith}
 use native.Mathlib.Nat.{add-zero}
@@ -10,7 +10,7 @@ use lib.Seq.{length-take-le, take-add}
 use borrow.Author.Tests.{eq-eqb}
 use Rattle.places.specs.Layout.{bookSize}
 use Rattle.book.specs.Emptied.{emptyAnswer, Emptied}
-use Rattle.lines.specs.Ended.{begun, short}
+use Rattle.lines.specs.Ended.{begun}
 use Rattle.lines.specs.Pieces.{atFirst, Piece, End}
 use Rattle.lines.specs.Whole.{Fed, last, more}
 use Rattle.lines.specs.declared.Desk.{Desk}
@@ -29,7 +29,8 @@ not-failed e = absurd (omega arith)
 fits : (k : ℕ) (t o : List ℕ) → 33 * length t ≤ length o → 33 * length (take k t) ≤ length o
 fits k t o h = omega (arith, length-take k t)
 
-pub hands : {d : Desk} {n : ℕ} {b t o b′ t′ o′ : List ℕ} {r : Step} → Piece d n b t o r b′ t′ o′ → 33 * length t ≤ length o → Hands d n b t (r .desk) b′ t′
+pub hands : {d : Desk} {n : ℕ} {b t o b′ t′ o′ : List ℕ} {r : Step} → Piece d n b t o r b′ t′ o′
+    → 33 * length t ≤ length o → Hands d n b t (r .desk) b′ t′
 hands {d} {n} {b} {t} {o} {b′} {t′} {o′} {r} p h =
     record { out = o; out′ = o′; step = r; piece = p; room = has-room p (fits (d .held + n) t o h); desk = refl }
 
@@ -60,7 +61,8 @@ module _ {b₀ t₀ o₀ b t o t₁ : List ℕ} {d : Desk} {n : ℕ} (g : Going 
       (last (ap (λ k. take k t₁) (add-zero (d .held)) ∙ h .front ∙ sym (append-nil (take (d .held) t))) (e .end) (e .room))
 
   -- the bytes that came are the next piece
-  pub going-on : {d′ : Desk} {b′ t′ o′ : List ℕ} → Hands d n b t₁ d′ b′ t′ → length t₁ ≡ length t → length b′ ≡ length b → length t′ ≡ length t₁
+  pub going-on : {d′ : Desk} {b′ t′ o′ : List ℕ} → Hands d n b t₁ d′ b′ t′ → length t₁ ≡ length t → length b′ ≡ length b
+      → length t′ ≡ length t₁
       → length o′ ≡ length o → Going b₀ t₀ o₀ b′ t′ o′ d′
   going-on {d′} {b′} {t′} i j x y z =
       let piece = take n (drop (d .held) t₁) in
@@ -80,7 +82,8 @@ module _ {b₀ t₀ o₀ b t o t₁ : List ℕ} {d : Desk} {n : ℕ} (g : Going 
 
 -- ---- an input over a book that was emptied
 
-pub one-input : {lent emptied text after : List ℕ} {r : ℕ} (s : ℕ) → (s ≡ 48 → Input emptied text after) → Emptied lent emptied r → length lent ≡ bookSize → s ≡ 48 → OneInput
+pub one-input : {lent emptied text after : List ℕ} {r : ℕ} (s : ℕ) → (s ≡ 48 → Input emptied text after)
+    → Emptied lent emptied r → length lent ≡ bookSize → s ≡ 48 → OneInput
 unfolding emptyAnswer
 one-input {lent} {emptied} {text} {after} {r} s f e n d =
     let i = f d in

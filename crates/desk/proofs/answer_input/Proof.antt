@@ -17,4 +17,6 @@ answer-input-spec =
     (λ c. search needs)
     (λ c. search needs)
     (λ c κs. search needs)
-    (λ c. one-input _ (c .before .before .before .answer-all .ensures) (c .before .before .before .before .before .before .before .before .before .before .empty .ensures) (search needs)))
+    (λ c.
+    one-input _ (c .before .before .before .answer-all .ensures)
+    (c .before .before .before .before .before .before .before .before .before .before .empty .ensures) (search needs)))
