@@ -55,8 +55,9 @@ going-first b t o e = record {
 }
 
 module _ {b₀ t₀ o₀ b t o t₁ : List ℕ} {d : Desk} {n : ℕ} (g : Going b₀ t₀ o₀ b t o d) (h : Behind (d .held) t n t₁) where
-  pub going-end : {b′ : List ℕ} → Ends d b t₁ b′ → Input b₀ t₀ b′
-  going-end {b′} e =
+  -- no byte came: the end of input
+  pub going-end : {b′ : List ℕ} → n ≡ 0 → Ends d b t₁ b′ → Input b₀ t₀ b′
+  going-end {b′} z e =
       g .on [] (take (e .step .written) (e .out′)) b′
       (last (ap (λ k. take k t₁) (add-zero (d .held)) ∙ h .front ∙ sym (append-nil (take (d .held) t))) (e .end) (e .room))
 
