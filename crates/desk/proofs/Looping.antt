@@ -1,19 +1,23 @@
 -- The desk's loop hands an input in pieces to `lines`.
-use Prim.Native.Nat.{ℕ, _+_, _*_, _≤_, _<_}
+use Prim.Native.Nat.{ℕ, _+_, _*_, _≤_}
 use mathlib.Core.Path.{_≡_, refl, sym, ap, _∙_}
-use mathlib.Core.Bool.{Bool, true}
+use mathlib.Core.Bool.{cond}
 use mathlib.Core.List.{List, [], _∷_, _++_, append-nil}
 use native.Mathlib.Omega.{arith}
 use native.Mathlib.Nat.{add-zero}
 use lib.ListN.{length, take, drop, length-take, length-drop}
 use lib.Seq.{length-take-le, take-add}
-use Rattle.lines.specs.Ended.{begun, short}
+use borrow.Author.Tests.{eq-eqb}
+use Rattle.places.specs.Layout.{bookSize}
+use Rattle.book.specs.Emptied.{emptyAnswer, Emptied}
+use Rattle.lines.specs.Ended.{begun}
 use Rattle.lines.specs.Pieces.{atFirst, Piece, End}
 use Rattle.lines.specs.Whole.{Fed, last, more}
 use Rattle.lines.specs.declared.Desk.{Desk}
 use Rattle.lines.specs.declared.Step.{Step}
 use Rattle.lines.proofs.LinesCallers.{has-room}
-use Rattle.desk.specs.Loop.{Behind, Hands, Ends, Input}
+use Rattle.lines.proofs.WholeText.{desk-alone}
+use Rattle.desk.specs.Loop.{Behind, Hands, Ends, Input, OneInput}
 
 pub not-done : {A : Type 0} (s : ℕ) → (s ≡ 48 → ⊥) → s ≡ 48 → A
 not-done s f e = absurd (f e)
@@ -25,7 +29,8 @@ not-failed e = absurd (omega arith)
 fits : (k : ℕ) (t o : List ℕ) → 33 * length t ≤ length o → 33 * length (take k t) ≤ length o
 fits k t o h = omega (arith, length-take k t)
 
-pub hands : {d : Desk} {n : ℕ} {b t o b′ t′ o′ : List ℕ} {r : Step} → Piece d n b t o r b′ t′ o′ → 33 * length t ≤ length o → Hands d n b t (r .desk) b′ t′
+pub hands : {d : Desk} {n : ℕ} {b t o b′ t′ o′ : List ℕ} {r : Step} → Piece d n b t o r b′ t′ o′
+    → 33 * length t ≤ length o → Hands d n b t (r .desk) b′ t′
 hands {d} {n} {b} {t} {o} {b′} {t′} {o′} {r} p h =
     record { out = o; out′ = o′; step = r; piece = p; room = has-room p (fits (d .held + n) t o h); desk = refl }
 
@@ -50,13 +55,15 @@ going-first b t o e = record {
 }
 
 module _ {b₀ t₀ o₀ b t o t₁ : List ℕ} {d : Desk} {n : ℕ} (g : Going b₀ t₀ o₀ b t o d) (h : Behind (d .held) t n t₁) where
-  pub going-end : {b′ : List ℕ} → Ends d b t₁ b′ → Input b₀ t₀ b′
-  going-end {b′} e =
+  -- no byte came: the end of input
+  pub going-end : {b′ : List ℕ} → n ≡ 0 → Ends d b t₁ b′ → Input b₀ t₀ b′
+  going-end {b′} z e =
       g .on [] (take (e .step .written) (e .out′)) b′
       (last (ap (λ k. take k t₁) (add-zero (d .held)) ∙ h .front ∙ sym (append-nil (take (d .held) t))) (e .end) (e .room))
 
   -- the bytes that came are the next piece
-  pub going-on : {d′ : Desk} {b′ t′ o′ : List ℕ} → Hands d n b t₁ d′ b′ t′ → length t₁ ≡ length t → length b′ ≡ length b → length t′ ≡ length t₁
+  pub going-on : {d′ : Desk} {b′ t′ o′ : List ℕ} → Hands d n b t₁ d′ b′ t′ → length t₁ ≡ length t → length b′ ≡ length b
+      → length t′ ≡ length t₁
       → length o′ ≡ length o → Going b₀ t₀ o₀ b′ t′ o′ d′
   going-on {d′} {b′} {t′} i j x y z =
       let piece = take n (drop (d .held) t₁) in
@@ -73,3 +80,13 @@ module _ {b₀ t₀ o₀ b t o t₁ : List ℕ} {d : Desk} {n : ℕ} (g : Going 
         text-size = y ∙ j ∙ g .text-size;
         out-size = z ∙ g .out-size;
       }
+
+-- ---- an input over a book that was emptied
+
+pub one-input : {lent emptied text after : List ℕ} {r : ℕ} (s : ℕ) → (s ≡ 48 → Input emptied text after)
+    → Emptied lent emptied r → length lent ≡ bookSize → s ≡ 48 → OneInput
+unfolding emptyAnswer
+one-input {lent} {emptied} {text} {after} {r} s f e n d =
+    let i = f d in
+    let z : r ≡ 0 = e .answered ∙ ap (λ q. cond q 0 1) (eq-eqb (length lent) bookSize n) in
+    record { pieces = i .pieces; written = i .written; alone = desk-alone lent emptied (rw z at e) text (i .pieces) (i .written) after (i .fed) }

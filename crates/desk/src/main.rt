@@ -8,7 +8,7 @@ use libc::STDOUT_FILENO;
 use line::Line;
 use lines::Desk;
 use places::SIZE;
-ghost use Prim.Native.Nat.{_+_, _*_, _≤_};
+ghost use Prim.Native.Nat.{_*_, _≤_};
 ghost use mathlib.Core.Path.{_≡_};
 ghost use lib.ListN.{length};
 ghost use Rattle.desk.specs.Loop.{Behind, Hands, Ends, Input, OneInput};

@@ -1,7 +1,7 @@
 -- Every text can be handed to a desk in pieces, in whatever pieces it comes.
-use Prim.Native.Nat.{ℕ, _+_, _*_, _≤_}
-use mathlib.Core.Path.{_≡_, refl, sym, ap, _∙_}
-use mathlib.Core.Bool.{Bool, true, false, false≢true}
+use Prim.Native.Nat.{ℕ, _+_, _*_}
+use mathlib.Core.Path.{refl, sym, ap, _∙_}
+use mathlib.Core.Bool.{true, false≢true}
 use mathlib.Core.List.{List, [], _∷_, _++_, append-nil}
 use native.Mathlib.Omega.{arith}
 use native.Mathlib.Nat.{add-zero}
@@ -11,8 +11,8 @@ use borrow.Author.Tests.{le-leb}
 use Rattle.meaning.specs.Desk.{output}
 use Rattle.lines.specs.Ended.{ended, begun, lastLine, short}
 use Rattle.lines.specs.Many.{answersBy, bookBy, laid}
-use Rattle.lines.specs.Pieces.{Steps, Piece, End}
-use Rattle.lines.specs.Whole.{Reads, Fed, last, more, Feeds, EveryText}
+use Rattle.lines.specs.Pieces.{Steps, End}
+use Rattle.lines.specs.Whole.{Reads, last, more, EveryText}
 use Rattle.lines.specs.declared.Desk.{Desk}
 use Rattle.lines.specs.declared.Step.{Step}
 use Rattle.lines.proofs.Steps.{laid-none, laid-size}

@@ -1,11 +1,11 @@
 -- What each return of the desk's functions shows.
-use Prim.Native.Nat.{ℕ, zero, suc, _+_, _-_, _*_, _/_, _≤_, _<_, min}
+use Prim.Native.Nat.{ℕ, zero, suc, _+_, _-_, _*_, _/_, _≤_, min}
 use mathlib.Core.Path.{_≡_, refl, sym, ap, _∙_}
 use mathlib.Core.Bool.{Bool, true, false, not, false≢true}
 use mathlib.Core.List.{List, [], _∷_, _++_, append-nil}
 use native.Mathlib.Omega.{arith}
 use lib.Dec.{leb}
-use lib.ListN.{length, take, drop, length-take, length-append}
+use lib.ListN.{length, take, drop, length-take}
 use lib.Seq.{take-all, length-take-le}
 use borrow.Author.Tests.{leb-true, leb-false, le-leb, lt-leb, not-true, not-false}
 use Rattle.tables.proofs.Counts.{cases}
@@ -15,10 +15,9 @@ use Rattle.answering.specs.Taking.{answerBy}
 use Rattle.lines.specs.Ended.{ended, begun, lastLine, short}
 use Rattle.lines.specs.Keeping.{part, Keeps}
 use Rattle.lines.specs.Many.{answersBy, bookBy, bytesIn, laid, writtenAs, one, standing, Turn, AnsweredBy}
-use Rattle.lines.specs.Pieces.{atFirst, roomFor, Takes, Leaves, Steps}
+use Rattle.lines.specs.Pieces.{atFirst, roomFor, Steps}
 use Rattle.lines.specs.declared.Desk.{Desk}
 use Rattle.lines.specs.declared.Progress.{Progress}
-use Rattle.lines.specs.declared.Step.{Step}
 use Rattle.lines.proofs.BegunLine.{begun-behind}
 use Rattle.lines.proofs.Steps.{laid-none, output-more, Came, came}
 
@@ -65,7 +64,8 @@ unfolding bytesIn
 bytes-both [] ms = omega arith
 bytes-both (l ∷ ls) ms = omega (arith, bytes-both ls ms)
 
-none-left : (rest done : List (List ℕ)) (t o : List ℕ) (read written : ℕ) → ended t ≡ done ++ rest → read ≡ bytesIn done → written ≤ 33 * read
+none-left : (rest done : List (List ℕ)) (t o : List ℕ) (read written : ℕ) → ended t ≡ done ++ rest → read ≡ bytesIn done
+    → written ≤ 33 * read
     → 33 * length t ≤ length o → ((rest ≡ [] → ⊥) → leb (written + 33) (length o) ≡ false) → rest ≡ []
 unfolding bytesIn
 none-left [] done t o read written a e n h f = refl
@@ -87,7 +87,8 @@ record All (s : Bool) (b t o b′ o′ : List ℕ) (p : Progress) : Type 0 where
   pub read : p .read ≡ bytesIn (ended t)
 
 module _ {s : Bool} {b t o b′ o′ : List ℕ} {p : Progress} where
-  all-came : Came s (ended t) (standing b o 0 0) (standing b′ o′ (p .read) (p .written)) → p .written ≤ 33 * p .read → 33 * length t ≤ length o′ → All s b t o b′ o′ p
+  all-came : Came s (ended t) (standing b o 0 0) (standing b′ o′ (p .read) (p .written)) → p .written ≤ 33 * p .read
+      → 33 * length t ≤ length o′ → All s b t o b′ o′ p
   all-came c n h =
       let r = none-left (c .rest) (c .done) t o′ (p .read) (p .written) (c .all) (omega (arith, c .read)) n h (c .stops) in
       let e : c .done ≡ ended t = sym (c .all ∙ ap (λ z. c .done ++ z) r ∙ append-nil (c .done)) in
@@ -99,7 +100,8 @@ module _ {s : Bool} {b t o b′ o′ : List ℕ} {p : Progress} where
       }
 
 module _ {d : Desk} {b text o b′ text′ o′ : List ℕ} (k : ℕ) {n h : ℕ} {q : Bool} {p : Progress} where
-  pub piece : n ≡ min k (length text) → q ≡ leb (33 * n) (length o) → not q ≡ false → AnsweredBy (d .sound) b (take n text) o p b′ o′
+  pub piece : n ≡ min k (length text) → q ≡ leb (33 * n) (length o) → not q ≡ false
+      → AnsweredBy (d .sound) b (take n text) o p b′ o′
       → length o′ ≡ length o → Keeps text (p .read) n h text′
       → Steps (take k text) (ended (take k text)) (short (begun (take k text))) d b text o (record { desk = record { held = h; sound = d .sound }; written = p .written; room = true }) b′ text′ o′
   piece m e f a z g =
@@ -123,7 +125,8 @@ module _ {d : Desk} {b text o b′ text′ o′ : List ℕ} (k : ℕ) {n h : ℕ
 
 -- ---- the end of input
 
-pub room-one : (n : ℕ) (o : List ℕ) {q : Bool} → q ≡ leb (33 * n) (length o) → not q ≡ false → (n ≡ 0 → ⊥) → 33 ≤ length o
+pub room-one : (n : ℕ) (o : List ℕ) {q : Bool} → q ≡ leb (33 * n) (length o) → not q ≡ false → (n ≡ 0 → ⊥)
+    → 33 ≤ length o
 room-one n o {q} e f g = omega (arith, leb-true (33 * n) (length o) (sym e ∙ not-false q f))
 
 last-some : (t : List ℕ) → (length t ≡ 0 → ⊥) → lastLine t ≡ t ∷ []
@@ -132,7 +135,8 @@ last-some [] f = absurd (f refl)
 last-some (c ∷ cs) f = refl
 
 module _ {d : Desk} {b text o : List ℕ} (k : ℕ) {n : ℕ} {q : Bool} (m : n ≡ min k (length text)) (e : q ≡ leb (33 * n) (length o)) (f : not q ≡ false) where
-  pub no-line : n ≡ 0 → Steps (take k text) (lastLine (take k text)) [] d b text o (record { desk = record { held = 0; sound = d .sound }; written = 0; room = true }) b text o
+  pub no-line : n ≡ 0
+      → Steps (take k text) (lastLine (take k text)) [] d b text o (record { desk = record { held = 0; sound = d .sound }; written = 0; room = true }) b text o
   unfolding lastLine bookBy answersBy output
   no-line g =
       let t : take k text ≡ [] = sym (same-bytes k text m) ∙ ap (λ i. take i text) g in

@@ -14,7 +14,8 @@ use Rattle.lines.specs.Ended.{short}
 use Rattle.lines.specs.Many.{laid}
 use Rattle.lines.specs.Keeping.{part, Keeps}
 
-pub some-room : (o : List ℕ) (at : ℕ) {t : Bool} → at ≤ length o → t ≡ leb 33 (length o - at) → t ≡ leb (at + 33) (length o)
+pub some-room : (o : List ℕ) (at : ℕ) {t : Bool} → at ≤ length o → t ≡ leb 33 (length o - at)
+    → t ≡ leb (at + 33) (length o)
 some-room o at h e =
     cases (leb 33 (length o - at))
     (λ x. e ∙ x ∙ sym (le-leb (at + 33) (length o) (omega (arith, leb-true 33 (length o - at) x))))
@@ -33,7 +34,8 @@ module _ (d s : List ℕ) (at : ℕ) where
   pub none-copied : Copied d s at d 0
   none-copied = record { whole = paste-zero d at s; few = omega arith; size = refl }
 
-  pub one-copied : {o : List ℕ} {i : ℕ} → Copied d s at o i → i < length s → at + length s ≤ length d → Copied d s at (set o (at + i) (getD s i 0)) (i + 1)
+  pub one-copied : {o : List ℕ} {i : ℕ} → Copied d s at o i → i < length s → at + length s ≤ length d
+      → Copied d s at (set o (at + i) (getD s i 0)) (i + 1)
   one-copied {o} {i} c h f =
       let e : i + 1 ≡ suc i = omega arith in
       record {
@@ -54,7 +56,8 @@ module _ (d : List ℕ) (from to : ℕ) where
   abbrev s : List ℕ
   s = short (part d from to)
 
-  pub kept-length : {j k m n : ℕ} → n ≡ min 81 m → m ≡ min j k → j ≡ to - from → k ≡ length d - from → n ≡ length (short (part d from to))
+  pub kept-length : {j k m n : ℕ} → n ≡ min 81 m → m ≡ min j k → j ≡ to - from → k ≡ length d - from
+      → n ≡ length (short (part d from to))
   kept-length {j} {k} {m} {n} a b e f =
       rw (length-take 81 (part d from to), length-take (to - from) (drop from d), length-drop from d, ← e, ← f, ← b) a
 

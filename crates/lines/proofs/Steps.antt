@@ -1,7 +1,7 @@
 -- A step over many lines submits the first of them one by one.
-use Prim.Native.Nat.{ℕ, _+_, _≤_, _<_}
+use Prim.Native.Nat.{ℕ, _+_, _≤_}
 use mathlib.Core.Path.{_≡_, refl, sym, ap, _∙_}
-use mathlib.Core.Bool.{Bool, true, false}
+use mathlib.Core.Bool.{Bool, false}
 use mathlib.Core.List.{List, [], _∷_, _++_, append-assoc, append-nil}
 use native.Mathlib.Omega.{arith}
 use native.Mathlib.Nat.{add-zero}
@@ -13,7 +13,7 @@ use Rattle.meaning.specs.Printing.{printed}
 use Rattle.meaning.specs.Desk.{output}
 use Rattle.meaning.specs.declared.Answer.{Answer}
 use Rattle.book.specs.Sound.{sound}
-use Rattle.precheck.specs.Alone.{Run, sent}
+use Rattle.precheck.specs.Alone.{sent}
 use Rattle.precheck.specs.Promise.{Submitted}
 use Rattle.answering.specs.Taking.{answerBy, bytesBy}
 use Rattle.answering.proofs.Submits.{keeps-promise}
@@ -105,7 +105,8 @@ module _ (t : Bool) where
     stops = h;
   }
 
-  one-came : (l : List ℕ) (ls : List (List ℕ)) (s r : Standing) → s .written ≤ length (s .out) → Came t ls (one t s l) r → Came t (l ∷ ls) s r
+  one-came : (l : List ℕ) (ls : List (List ℕ)) (s r : Standing) → s .written ≤ length (s .out) → Came t ls (one t s l) r
+      → Came t (l ∷ ls) s r
   unfolding one bookBy answersBy bytesIn
   one-came l ls s r h c =
       let a = answerBy t (s .book) l in
@@ -145,7 +146,8 @@ module _ {t : Bool} {b text o b′ o′ : List ℕ} {r : Progress} where
   pub exactly : AnsweredBy t b text o r b′ o′ → t ≡ sound b → Answered b text o r b′ o′
   exactly a e = rw (← e) a
 
-  sent-from : Came t (ended text) (standing b o 0 0) (standing b′ o′ (r .read) (r .written)) → t ≡ sound b → length o′ ≡ length o → SentLines b text o r b′ o′
+  sent-from : Came t (ended text) (standing b o 0 0) (standing b′ o′ (r .read) (r .written)) → t ≡ sound b
+      → length o′ ≡ length o → SentLines b text o r b′ o′
   sent-from c e z =
       record {
         lines = c .done;

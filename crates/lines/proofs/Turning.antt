@@ -26,11 +26,13 @@ use Rattle.lines.proofs.Ending.{ended-next, ended-none}
 pub printed-length : {a : Answer} {p : Written} → Prints a p → p .len ≡ length (take (p .len) (p .bytes))
 printed-length {a} {p} h = sym (length-take-le (p .len) (p .bytes) (omega (arith, h .few, h .size)))
 
-pub printed-fits : {a : Answer} {p : Written} (n m : ℕ) → Prints a p → n + 33 ≤ m → n + length (take (p .len) (p .bytes)) ≤ m
+pub printed-fits : {a : Answer} {p : Written} (n m : ℕ) → Prints a p → n + 33 ≤ m
+    → n + length (take (p .len) (p .bytes)) ≤ m
 printed-fits n m i h = omega (arith, printed-length i, i .few)
 
 -- one byte more behind bytes that were laid
-laid-more : (o t : List ℕ) (at c : ℕ) → at + length t < length o → set (laid o at t) (at + length t) c ≡ laid o at (t ++ (c ∷ []))
+laid-more : (o t : List ℕ) (at c : ℕ) → at + length t < length o
+    → set (laid o at t) (at + length t) c ≡ laid o at (t ++ (c ∷ []))
 unfolding laid
 laid-more o t at c h =
     let u = t ++ (c ∷ []) in
@@ -43,7 +45,8 @@ laid-more o t at c h =
     ∙ ap (paste o at u) (sym n)
     ∙ ap (λ z. take at o ++ z ++ drop (at + length u) o) (take-length u)
 
-pub put : (o o′ : List ℕ) (at : ℕ) (a : Answer) (p : Written) → Prints a p → o′ ≡ laid o at (take (p .len) (p .bytes)) → at + 33 ≤ length o → length o′ ≡ length o
+pub put : (o o′ : List ℕ) (at : ℕ) (a : Answer) (p : Written) → Prints a p → o′ ≡ laid o at (take (p .len) (p .bytes))
+    → at + 33 ≤ length o → length o′ ≡ length o
     → Put o at a (at + p .len + 1) (set o′ (at + p .len) 10)
 unfolding writtenAs
 put o o′ at a p i e h z =
@@ -73,7 +76,8 @@ pub room-for : (n m : ℕ) {t : Bool} → t ≡ leb n m → t ≡ true → n ≤
 room-for n m e f = leb-true n m (sym e ∙ f)
 
 -- the next line begins later
-pub comes-nearer : {text : List ℕ} {at : ℕ} {l : Span} → Splits text at l → l .end < length text → length text - l .next < length text - at
+pub comes-nearer : {text : List ℕ} {at : ℕ} {l : Span} → Splits text at l → l .end < length text
+    → length text - l .next < length text - at
 comes-nearer {text} {at} p h = omega (arith, p .from, p .onward, p .later (omega (arith, p .from)))
 
 module _ (s : Bool) where
@@ -82,7 +86,8 @@ module _ (s : Bool) where
   many-full [] z e = refl
   many-full (l ∷ ls) z e = rw e
 
-  many-next : (l : List ℕ) (ls : List (List ℕ)) (z : Standing) → room z ≡ true → many s (l ∷ ls) z ≡ many s ls (one s z l)
+  many-next : (l : List ℕ) (ls : List (List ℕ)) (z : Standing) → room z ≡ true
+      → many s (l ∷ ls) z ≡ many s ls (one s z l)
   unfolding many
   many-next l ls z e = rw e
 
@@ -104,14 +109,17 @@ module _ {b₀ text o₀ : List ℕ} {s : Bool} where
         → AnsweredBy s b₀ text o₀ (record { read = read; written = written }) b o
     came-to e = record { whole = sym e ∙ g .left; inside = g .inside; few = g .few; narrow = g .narrow }
 
-    pub going-full : {t : Bool} → t ≡ leb (written + 33) (length o) → t ≡ false → AnsweredBy s b₀ text o₀ (record { read = read; written = written }) b o
+    pub going-full : {t : Bool} → t ≡ leb (written + 33) (length o) → t ≡ false
+        → AnsweredBy s b₀ text o₀ (record { read = read; written = written }) b o
     going-full e f = came-to (many-full s (ended (drop read text)) (standing b o read written) (sym e ∙ f))
 
-    pub going-out : {l : Span} → Splits text read l → length text ≤ l .end → AnsweredBy s b₀ text o₀ (record { read = read; written = written }) b o
+    pub going-out : {l : Span} → Splits text read l → length text ≤ l .end
+        → AnsweredBy s b₀ text o₀ (record { read = read; written = written }) b o
     unfolding many spanFrom
     going-out {l} p h = came-to (rw (ended-none text read (l .end) (ap (λ z. z .end) (p .whole)) h))
 
-    pub going-on : {t : Bool} {l : Span} {b′ o′ : List ℕ} {r : ℕ} → t ≡ leb (written + 33) (length o) → t ≡ true → Splits text read l → l .end < length text
+    pub going-on : {t : Bool} {l : Span} {b′ o′ : List ℕ} {r : ℕ} → t ≡ leb (written + 33) (length o) → t ≡ true
+        → Splits text read l → l .end < length text
         → Turn s b (take (l .end - read) (drop read text)) o written r b′ o′ → length b′ ≡ length b → length o′ ≡ length o → Going b₀ text o₀ s b′ o′ (l .next) r
     unfolding spanFrom
     going-on {t} {l} {b′} {o′} {r} e f p h u y z =

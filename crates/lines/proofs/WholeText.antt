@@ -1,7 +1,7 @@
 -- A text that is read in pieces is answered as if it had come whole.
-use Prim.Native.Nat.{ℕ, zero, suc, _+_, _*_, _≤_}
+use Prim.Native.Nat.{ℕ, zero, suc, _+_, _≤_}
 use mathlib.Core.Path.{_≡_, refl, sym, ap, _∙_}
-use mathlib.Core.Bool.{Bool, true, false, cond}
+use mathlib.Core.Bool.{Bool, false, cond}
 use mathlib.Core.List.{List, [], _∷_, _++_, map, append-assoc, append-nil, map-append}
 use native.Mathlib.Omega.{arith}
 use native.Mathlib.Nat.{add-zero}
@@ -21,13 +21,11 @@ use Rattle.precheck.specs.Alone.{Run, done}
 use Rattle.answering.specs.Taking.{answerBy, bytesBy}
 use Rattle.precheck.proofs.Alone.{one-alone}
 use Rattle.lines.specs.Ended.{inFront, ended, begun, lastLine, short}
-use Rattle.lines.specs.Many.{answersBy, bookBy, answersOf, laid, writtenAs}
-use Rattle.lines.specs.Pieces.{Steps}
+use Rattle.lines.specs.Many.{answersBy, bookBy, answersOf, laid}
 use Rattle.lines.specs.Whole.{Fed, last, more, joined, Whole, DeskAlone}
 use Rattle.lines.specs.declared.Desk.{Desk}
-use Rattle.lines.specs.declared.Step.{Step}
 use Rattle.lines.proofs.BegunLine.{isEnd, Open, open-first, open-rest, open-none, has-behind, open-take, begun-open, lines-behind}
-use Rattle.lines.proofs.Steps.{submits, output-more}
+use Rattle.lines.proofs.Steps.{submits}
 
 -- ---- a begun line in front of a piece
 
@@ -113,7 +111,8 @@ cut-both : (ls ms : List (List ℕ)) → cut (ls ++ ms) ≡ cut ls ++ cut ms
 unfolding cut
 cut-both ls ms = map-append short ls ms
 
-cut-lines : (pieces : List (List ℕ)) (h : List ℕ) → Open h → cut (linesIn (short h) pieces) ≡ cut (linesOf (h ++ joined pieces))
+cut-lines : (pieces : List (List ℕ)) (h : List ℕ) → Open h
+    → cut (linesIn (short h) pieces) ≡ cut (linesOf (h ++ joined pieces))
 unfolding linesIn joined
 cut-lines [] h e = rw append-nil (cut-last h e)
 cut-lines (p ∷ ps) h e =
@@ -153,7 +152,8 @@ module _ (s : Bool) where
 
   -- ---- lines one behind the other
 
-  answers-both : (b : List ℕ) (ls ms : List (List ℕ)) → answersBy s b (ls ++ ms) ≡ answersBy s b ls ++ answersBy s (bookBy s b ls) ms
+  answers-both : (b : List ℕ) (ls ms : List (List ℕ))
+      → answersBy s b (ls ++ ms) ≡ answersBy s b ls ++ answersBy s (bookBy s b ls) ms
   unfolding answersBy bookBy
   answers-both b [] ms = refl
   answers-both b (l ∷ ls) ms = ap (λ z. answerBy s b l ∷ z) (answers-both (bytesBy s b l) ls ms)
@@ -179,7 +179,8 @@ front : (o x y : List ℕ) (n : ℕ) → n ≡ length x → y ≡ laid o 0 x →
 unfolding laid
 front o x y n e f = rw (f, e) (take-at x (drop (0 + length x) o) (length x) refl)
 
-told-more : (s : Bool) (b h piece : List ℕ) (pieces : List (List ℕ)) (b′ w w′ after : List ℕ) → b′ ≡ bookBy s b (ended (h ++ piece))
+told-more : (s : Bool) (b h piece : List ℕ) (pieces : List (List ℕ)) (b′ w w′ after : List ℕ)
+    → b′ ≡ bookBy s b (ended (h ++ piece))
     → w ≡ output (answersBy s b (ended (h ++ piece))) → Told s b′ (linesIn (short (begun (h ++ piece))) pieces) w′ after
     → Told s b (linesIn h (piece ∷ pieces)) (w ++ w′) after
 unfolding linesIn

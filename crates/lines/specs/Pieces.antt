@@ -52,4 +52,5 @@ Piece d came book text out r book′ text′ out′ =
 
 -- the end of input: the line that is begun is answered, if there is one, and nothing is held
 abbrev pub End : Desk → List ℕ → List ℕ → List ℕ → Step → List ℕ → List ℕ → Type 0
-End d book text out r book′ out′ = let stands = take (d .held) text in Steps stands (lastLine stands) [] d book text out r book′ text out′
+End d book text out r book′ out′ =
+    let stands = take (d .held) text in Steps stands (lastLine stands) [] d book text out r book′ text out′

@@ -16,7 +16,8 @@ use Rattle.lines.specs.declared.Progress.{Progress}
 -- promises, and whatever is submitted to that book goes on with them
 abbrev pub Sent : List ℕ → List (List ℕ) → List Answer → List ℕ → Type 0
 Sent before lines answers after =
-    (more : List (List ℕ)) (others : List Answer) → Run after more others → Run before (lines ++ more) (answers ++ others)
+    (more : List (List ℕ)) (others : List Answer) → Run after more others
+    → Run before (lines ++ more) (answers ++ others)
 
 -- the first of a text's ended lines are submitted, and their answers written one behind the other; it stops at the last
 -- line, or where there is no room for an answer

@@ -27,7 +27,8 @@ pub data Fed : Desk → List ℕ → List ℕ → List (List ℕ) → List ℕ �
   last : {d : Desk} {book text text₁ out book′ out′ : List ℕ} {r : Step}
       → Reads d text [] text₁ → End d book text₁ out r book′ out′ → r .room ≡ true
       → Fed d book text [] (take (r .written) out′) book′
-  more : {d : Desk} {book text piece text₁ out book′ text′ out′ written after : List ℕ} {r : Step} {pieces : List (List ℕ)}
+  more : {d : Desk} {book text piece text₁ out book′ text′ out′ written after : List ℕ} {r : Step}
+      {pieces : List (List ℕ)}
       → Reads d text piece text₁ → Piece d (length piece) book text₁ out r book′ text′ out′ → r .room ≡ true
       → Fed (r .desk) book′ text′ pieces written after
       → Fed d book text (piece ∷ pieces) (take (r .written) out′ ++ written) after
@@ -55,7 +56,8 @@ pub record AnswersLines (b text written after : List ℕ) : Type 0 where
 
 abbrev pub Whole : Type 0
 Whole =
-    (book text : List ℕ) (pieces : List (List ℕ)) (written after : List ℕ) → Fed (atFirst book) book text pieces written after
+    (book text : List ℕ) (pieces : List (List ℕ)) (written after : List ℕ)
+    → Fed (atFirst book) book text pieces written after
     → AnswersLines book (joined pieces) written after
 
 -- demand 3 for a text that comes in pieces: what is written is the output of answers of which those at the lines that
@@ -68,5 +70,6 @@ pub record Alone (text written : List ℕ) : Type 0 where
 abbrev pub DeskAlone : Type 0
 DeskAlone =
     (lent emptied : List ℕ) → Emptied lent emptied 0
-    → (text : List ℕ) (pieces : List (List ℕ)) (written after : List ℕ) → Fed (atFirst emptied) emptied text pieces written after
+    → (text : List ℕ) (pieces : List (List ℕ)) (written after : List ℕ)
+    → Fed (atFirst emptied) emptied text pieces written after
     → Alone (joined pieces) written

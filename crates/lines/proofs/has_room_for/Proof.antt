@@ -1,6 +1,5 @@
 -- `lines::has_room_for` meets its contract. Assumes nothing.
 use Rattle.lines.proofs.Handing.{each-fits}
-use borrow.Author.Needs.{needs}
 use Rattle.lines.proofs.has_room_for.Statement.{statement}
 use Rattle.lines.proofs.has_room_for.Tie as tie
 
