@@ -2,8 +2,8 @@
 -- may decide is the answer, else the rest is searched, and past the end there is nothing.
 use mathlib.Core.Path.{_≡_, refl, sym, ap, _∙_}
 use mathlib.Core.Bool.{Bool, true, false, not, cond}
-use mathlib.Core.List.{List}
-use Prim.Native.Nat.{ℕ, _+_, _<_, _≤_}
+use mathlib.Core.List.{List, _∷_}
+use Prim.Native.Nat.{ℕ, suc, _+_, _<_, _≤_}
 use native.Mathlib.Numerals.{add-one}
 use lib.Dec.{T}
 use lib.ListN.{length, getD, drop, drop-of-length-le}
@@ -24,10 +24,17 @@ passes r d = rw (ne-eqb (r .sign) positive d)
 
 -- ---- the search, from place i on
 
+first-cons : (r : ListedRule) (rs : List ListedRule)
+    → firstPositive (r ∷ rs) ≡ cond (mayDecide r) (At (r .sequence)) (firstPositive rs)
+unfolding firstPositive
+first-cons r rs = refl
+
 module _ (ys : List ListedRule) (i : ℕ) (l : i < length ys) where
   one : firstPositive (drop i ys) ≡ cond (mayDecide (getD ys i noRule)) (At (getD ys i noRule .sequence)) (firstPositive (drop (i + 1) ys))
-  unfolding firstPositive
-  one = ap firstPositive (drop-cons ys i noRule l) ∙ ap (λ (k : ℕ). cond (mayDecide (getD ys i noRule)) (At (getD ys i noRule .sequence)) (firstPositive (drop k ys))) (sym (add-one i))
+  one =
+      ap firstPositive (drop-cons ys i noRule l)
+      ∙ first-cons (getD ys i noRule) (drop (suc i) ys)
+      ∙ ap (λ (k : ℕ). cond (mayDecide (getD ys i noRule)) (At (getD ys i noRule .sequence)) (firstPositive (drop k ys))) (sym (add-one i))
 
   pub hits : mayDecide (getD ys i noRule) ≡ true → At (getD ys i noRule .sequence) ≡ firstPositive (drop i ys)
   hits h = sym (one ∙ ap (λ (t : Bool). cond t (At (getD ys i noRule .sequence)) (firstPositive (drop (i + 1) ys))) h)
