@@ -84,7 +84,7 @@ abbrev pub asMeant : Option Question → Option M.Question
 asMeant none = none
 asMeant (some q) = some (questionOf q)
 
-asked-question : (d : ℕ) (w : Row) (x : What) → questionIn (askedBy d w x) ≡ asMeant (questionAsked x)
+pub asked-question : (d : ℕ) (w : Row) (x : What) → questionIn (askedBy d w x) ≡ asMeant (questionAsked x)
 unfolding askedBy
 asked-question d w (What.AddType t) = refl
 asked-question d w (What.EndType number object last) = refl

@@ -5,7 +5,7 @@ use mathlib.Core.Bool.{true}
 use mathlib.Core.List.{List}
 use lib.ListN.{length, take}
 use Rattle.lines.specs.Pieces.{atFirst, Piece, End}
-use Rattle.lines.specs.Whole.{Fed}
+use Rattle.lines.specs.Whole.{Fed, joined, Alone}
 use Rattle.lines.specs.declared.Desk.{Desk}
 use Rattle.lines.specs.declared.Step.{Step}
 
@@ -37,3 +37,10 @@ pub record Input (b t b′ : List ℕ) : Type 0 where
   pub pieces : List (List ℕ)
   pub written : List ℕ
   pub fed : Fed (atFirst b) b t pieces written b′
+
+-- demand 3 for an input: what was written are answers of which those at the lines that name a depository are its lone
+-- book's
+pub record OneInput : Type 0 where
+  pub pieces : List (List ℕ)
+  pub written : List ℕ
+  pub alone : Alone (joined pieces) written

@@ -11,7 +11,7 @@ use places::SIZE;
 ghost use Prim.Native.Nat.{_+_, _*_, _≤_};
 ghost use mathlib.Core.Path.{_≡_};
 ghost use lib.ListN.{length};
-ghost use Rattle.desk.specs.Loop.{Behind, Hands, Ends, Input};
+ghost use Rattle.desk.specs.Loop.{Behind, Hands, Ends, Input, OneInput};
 
 // How the work ended, as a digit for descriptor 3: a program has no status of its own, and ./precheck reads it there.
 const DONE: u8 = b'0';
@@ -165,7 +165,9 @@ fn answer_all(fd: i32, name: &[u8], book: &mut [u8], text: &mut [u8], out: &mut 
 }
 
 // Answers what a descriptor gives, over a book emptied for it.
-fn answer_input(fd: i32, name: &[u8]) -> u8 {
+fn answer_input(fd: i32, name: &[u8]) -> u8
+    ensures { λ r. ⌜ (r ≡ 48 → OneInput) ⌝ }
+{
     let mut book = book_space();
     precheck::empty(&mut book);
     let mut text = text_space();

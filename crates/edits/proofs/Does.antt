@@ -23,7 +23,9 @@ use Rattle.commands.specs.declared.What.the-variants as What
 use Rattle.commands.specs.declared.Command.{Command}
 use Rattle.book.specs.Places.{typePlace, rulePlace, rowPlace, periodPlace}
 use Rattle.edits.specs.Moves.{ruleWith, rowWith, carryRow, carryRows}
+use Rattle.edits.specs.Leaves.{Accepted, Edited}
 use Rattle.edits.specs.Edit.{typeIn, ruleIn, rowIn, periodIn, freeType, freeRule, freeRow, freePeriod, typeEnded, periodEnded, storeType, storeRule, storeRow, storePeriod, endedType, endedPeriod, deletedRule, deletedRow, reorderedRule, editIn}
+use Rattle.edits.proofs.Stay.{edit-left}
 
 -- a store where the place is one of n, and none where it is not
 module _ (b l : List ℕ) (i n : ℕ) where
@@ -173,3 +175,8 @@ module _ (b b′ : List ℕ) (c : Command) where
 pub edit-Q : (b : List ℕ) (c : Command) (q : Question) → c .what ≡ What.Ask q → b ≡ editIn b (c .csd) (asked c)
 unfolding editIn askedBy
 edit-Q b c q e = rw e
+
+-- so that it leaves what the meaning says
+pub edit-meant : (b b′ : List ℕ) (c : Command) → b′ ≡ editIn b (c .csd) (asked c) → Accepted b (c .csd) (asked c)
+    → Edited b (c .csd) (asked c) b′
+edit-meant b b′ c e a = rw e (edit-left b (c .csd) (asked c) a)

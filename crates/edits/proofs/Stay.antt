@@ -8,8 +8,7 @@ use lib.ListN.{length}
 use borrow.Author.Tests.{eqb-true}
 use Rattle.tables.proofs.Counts.{cases-eq, ands, all-put}
 use Rattle.meaning.specs.Records as M
-use Rattle.meaning.specs.Refusals.{refusal}
-use Rattle.meaning.specs.Edits.{edited, fits}
+use Rattle.meaning.specs.Edits.{edited}
 use Rattle.meaning.specs.Sound.{soundLone}
 use Rattle.meaning.proofs.Good.{good-of-sound, sound-of-good, sound-same}
 use Rattle.meaning.proofs.Kept.{good-edited}
@@ -17,7 +16,7 @@ use Rattle.places.specs.Layout.{bookSize}
 use Rattle.book.specs.Lone.{loneBook}
 use Rattle.book.specs.Sound.{sound}
 use Rattle.book.proofs.Facts.{facts-of-sound}
-use Rattle.edits.specs.Leaves.{Leaves}
+use Rattle.edits.specs.Leaves.{Leaves, Accepted, Edited}
 use Rattle.edits.specs.Edit.{editIn}
 use Rattle.edits.proofs.Leave.{edit-leaves}
 
@@ -41,11 +40,12 @@ module _ (b b′ : List ℕ) (c : ℕ) (m : M.Book) (e : sound b ≡ true) (l : 
             (λ z. ap soundLone (l .others (a + 1) (omega arith) z) ∙ sound-lone b e (a + 1) (omega arith) (omega arith))),
       )
 
-module _ (b : List ℕ) (c : ℕ) (e : sound b ≡ true) (low : 1 ≤ c) (high : c ≤ 8) (k : M.Command) (f : fits k ≡ true) (r : refusal (loneBook c b) k ≡ 0) where
-  pub edit-left : Leaves b (editIn b c k) c (edited (loneBook c b) k)
-  edit-left = edit-leaves b c (facts-of-sound b e) low high k f r
-
-  pub edit-sound : sound (editIn b c k) ≡ true
-  edit-sound =
-      leaves-sound b (editIn b c k) c (edited (loneBook c b) k) e edit-left
-      (sound-of-good (edited (loneBook c b) k) (good-edited (loneBook c b) (good-of-sound (loneBook c b) (sound-lone b e c low high)) k f r))
+pub edit-left : (b : List ℕ) (c : ℕ) (k : M.Command) → Accepted b c k → Edited b c k (editIn b c k)
+edit-left b c k a =
+    let m = loneBook c b in
+    let left = edit-leaves b c (facts-of-sound b (a .book)) (a .low) (a .high) k (a .fits) (a .unrefused) in
+    let good = good-of-sound m (sound-lone b (a .book) c (a .low) (a .high)) in
+    record {
+      left = left;
+      stays = leaves-sound b (editIn b c k) c (edited m k) (a .book) left (sound-of-good (edited m k) (good-edited m good k (a .fits) (a .unrefused)));
+    }

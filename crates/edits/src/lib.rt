@@ -3,6 +3,7 @@ ghost use mathlib.Core.Path.{_≡_};
 ghost use Rattle.records.specs.Said.{typeOf, ruleOf, rowOf, periodOf};
 ghost use Rattle.places.specs.Layout.{rowPlaces};
 ghost use Rattle.commands.specs.Asked.{asked};
+ghost use Rattle.edits.specs.Leaves.{Accepted, Edited};
 ghost use Rattle.edits.specs.Moves.{carryRow, carryRows};
 ghost use Rattle.edits.specs.Edit.{typeIn, ruleIn, rowIn, periodIn, freeType, freeRule, freeRow, freePeriod, storeType, storeRule, storeRow, storePeriod, endedType, endedPeriod, deletedRule, deletedRow, reorderedRule, editIn};
 use book::find_period;
@@ -216,9 +217,10 @@ fn own_period(csd: u8, p: Period) -> Period
 
 // ---- Of a command.
 
-// What an accepted command does to the bytes: a question nothing.
+// What an accepted command does to the bytes: a question nothing. Over a sound book it leaves what the meaning says.
 pub fn edit(b: &mut [u8], c: Command)
-    ensures { λ r. ⌜ now (b .exit) ≡ editIn (now (b .entry)) (c .csd) (asked c) ⌝ }
+    ensures bytes { λ r. ⌜ now (b .exit) ≡ editIn (now (b .entry)) (c .csd) (asked c) ⌝ }
+    ensures meant { λ r. ⌜ (Accepted (now (b .entry)) (c .csd) (asked c) → Edited (now (b .entry)) (c .csd) (asked c) (now (b .exit))) ⌝ }
 {
     let csd = c.csd;
     let row = c.row;

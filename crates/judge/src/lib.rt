@@ -2,7 +2,12 @@
 // which a row matches (crate `matching`, stages 1 and 2): a pass over the rules, one over the types, and one over the
 // rules for each type that the verdict names. A pass goes from each place of the depository to its next.
 ghost use mathlib.Core.Path.{_≡_};
+ghost use mathlib.Core.Bool.{true};
 ghost use lib.ListN.{length, getD};
+ghost use Rattle.meaning.specs.Judging.{judged};
+ghost use Rattle.meaning.specs.Sound.{soundLone};
+ghost use Rattle.book.specs.Lone.{loneBook};
+ghost use Rattle.commands.specs.Asked.{questionOf};
 ghost use Rattle.matching.specs.MatchedRows.{ruleKeys};
 ghost use Rattle.tables.specs.Count.{lesser};
 ghost use Rattle.tables.specs.Keyed.{marked, Blank};
@@ -318,9 +323,11 @@ fn verdict(b: &[u8], q: Question, rows: &[u8], named: &[u8]) -> Verdict
     }
 }
 
-// The verdict on a question, for any bytes; over a sound book it is the written meaning's (proofs/VerdictRight.antt).
+// The verdict on a question, for any bytes; where the depository's records are sound, as in every sound book, it is the
+// meaning's over its lone book.
 pub fn judge(book: &[u8], q: Question) -> Verdict
-    ensures { λ r. ⌜ r ≡ judgedBy (now (book .entry)) q ⌝ }
+    ensures by_bytes { λ r. ⌜ r ≡ judgedBy (now (book .entry)) q ⌝ }
+    ensures meant { λ r. ⌜ (soundLone (loneBook (q .csd) (now (book .entry))) ≡ true → r ≡ judged (loneBook (q .csd) (now (book .entry))) (questionOf q)) ⌝ }
 {
     let mut rows = row_space();
     mark_rules(&mut rows, book, q);

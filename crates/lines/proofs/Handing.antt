@@ -11,7 +11,7 @@ use borrow.Author.Tests.{leb-true, leb-false, le-leb, lt-leb, not-true, not-fals
 use Rattle.tables.proofs.Counts.{cases}
 use Rattle.meaning.specs.Desk.{output}
 use Rattle.book.specs.Sound.{sound}
-use Rattle.precheck.specs.Taking.{answerBy}
+use Rattle.answering.specs.Taking.{answerBy}
 use Rattle.lines.specs.Ended.{ended, begun, lastLine, short}
 use Rattle.lines.specs.Keeping.{part, Keeps}
 use Rattle.lines.specs.Many.{answersBy, bookBy, bytesIn, laid, writtenAs, one, standing, Turn, AnsweredBy}

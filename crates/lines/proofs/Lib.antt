@@ -1,6 +1,7 @@
 pub mod LinesCallers
 pub mod BegunLine
 pub mod Ending
+pub mod Feeding
 pub mod Handing
 pub mod Laying
 pub mod Steps

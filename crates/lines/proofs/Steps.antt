@@ -15,8 +15,8 @@ use Rattle.meaning.specs.declared.Answer.{Answer}
 use Rattle.book.specs.Sound.{sound}
 use Rattle.precheck.specs.Alone.{Run, sent}
 use Rattle.precheck.specs.Promise.{Submitted}
-use Rattle.precheck.specs.Taking.{answerBy, bytesBy}
-use Rattle.precheck.proofs.Submits.{keeps-promise}
+use Rattle.answering.specs.Taking.{answerBy, bytesBy}
+use Rattle.answering.proofs.Submits.{keeps-promise}
 use Rattle.lines.specs.Ended.{ended}
 use Rattle.lines.specs.Many.{answersBy, bookBy, bytesIn, laid, writtenAs, Standing, room, one, many, standing, AnsweredBy, Answered}
 use Rattle.lines.specs.Sent.{Sent, SentLines}

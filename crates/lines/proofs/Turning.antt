@@ -15,7 +15,7 @@ use Rattle.text.specs.Parts.{spanFrom, Splits}
 use Rattle.text.specs.Printed.{Prints}
 use Rattle.text.specs.declared.lines.Span.{Span}
 use Rattle.writing.specs.declared.bytes.Written.{Written}
-use Rattle.precheck.specs.Taking.{Answers}
+use Rattle.answering.specs.Taking.{Answers}
 use Rattle.lines.specs.Ended.{ended}
 use Rattle.lines.specs.Many.{laid, writtenAs, Standing, room, one, many, standing, Put, Turn, AnsweredBy}
 use Rattle.lines.proofs.Ending.{ended-next, ended-none}

@@ -18,7 +18,7 @@ use Rattle.meaning.specs.Desk.{linesOf, output}
 use Rattle.meaning.specs.declared.Answer.{Answer}
 use Rattle.book.specs.Sound.{sound}
 use Rattle.precheck.specs.Alone.{Run, done}
-use Rattle.precheck.specs.Taking.{answerBy, bytesBy}
+use Rattle.answering.specs.Taking.{answerBy, bytesBy}
 use Rattle.precheck.proofs.Alone.{one-alone}
 use Rattle.lines.specs.Ended.{inFront, ended, begun, lastLine, short}
 use Rattle.lines.specs.Many.{answersBy, bookBy, answersOf, laid, writtenAs}

@@ -8,7 +8,7 @@ use lib.ListN.{length, take, drop}
 use Rattle.meaning.specs.Printing.{printed}
 use Rattle.meaning.specs.declared.Answer.{Answer}
 use Rattle.book.specs.Sound.{sound}
-use Rattle.precheck.specs.Taking.{answerBy, bytesBy}
+use Rattle.answering.specs.Taking.{answerBy, bytesBy}
 use Rattle.lines.specs.Ended.{ended}
 use Rattle.lines.specs.declared.Progress.{Progress}
 

@@ -32,6 +32,15 @@ pub data Fed : Desk → List ℕ → List ℕ → List (List ℕ) → List ℕ �
       → Fed (r .desk) book′ text′ pieces written after
       → Fed d book text (piece ∷ pieces) (take (r .written) out′ ++ written) after
 
+-- for every desk, every book and every list of pieces there is such a run
+pub record Feeds (d : Desk) (book text : List ℕ) (pieces : List (List ℕ)) : Type 0 where
+  pub written : List ℕ
+  pub after : List ℕ
+  pub fed : Fed d book text pieces written after
+
+abbrev pub EveryText : Type 0
+EveryText = (d : Desk) (book text : List ℕ) (pieces : List (List ℕ)) → Feeds d book text pieces
+
 -- the pieces as one text
 unfoldable pub joined : List (List ℕ) → List ℕ
 joined [] = []

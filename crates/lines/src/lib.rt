@@ -8,8 +8,8 @@ ghost use Rattle.lines.specs.Many.{laid, Put, Turn, AnsweredBy, Answered
 ghost use Rattle.lines.specs.Sent.{SentLines};
 ghost use Rattle.lines.specs.Keeping.{Keeps};
 ghost use Rattle.lines.specs.Pieces.{atFirst, Piece, End};
+use answering::answer;
 use meaning::Answer;
-use precheck::answer;
 use soundness::is_sound;
 use text::next_line;
 use text::print;
@@ -165,8 +165,11 @@ fn has_room_for(out: &[u8], n: usize) -> bool
 pub fn begin(book: &[u8]) -> Desk
     ensures { λ r. ⌜ r ≡ atFirst (now (book .entry)) ⌝ }
 {
-    let sound = is_sound(book);
-    Desk { held: 0, sound }
+    let found = is_sound(book);
+    Desk {
+        held: 0,
+        sound: found,
+    }
 }
 
 // A piece came behind the bytes that the desk holds: the lines that are ended now are answered, and the line that is
@@ -211,7 +214,7 @@ pub fn answer_end(desk: Desk, book: &mut [u8], text: &[u8], out: &mut [u8]) -> S
         };
     }
     let sound = desk.sound;
-    let end = Desk { held: 0, sound };
+    let end = Desk { sound, held: 0 };
     if n == 0 {
         return Step {
             desk: end,

@@ -17,6 +17,15 @@ use Rattle.meaning.proofs.Listed.{Listed, not-so, has-map, every-change
 use Rattle.meaning.proofs.Good.{ruleKind, rowKind, Ruled, Lists}
 use Rattle.meaning.proofs.Changed.{rules-rows-changed}
 
+-- a row of a key would have its rule there
+pub no-rows : (b : Book) → Lists b → (n o s : ℕ) → has (isRule n o s) (b .rules) ≡ false
+    → has (ofRule n o s) (b .rows) ≡ false
+no-rows b g n o s free =
+    not-so (has (ofRule n o s) (b .rows)) (has (isRule n o s) (b .rules)) free
+    (λ h.
+    some-of (λ w. has (fillsRule w) (b .rules)) (ofRule n o s) (b .rows) (g .ruled) (has-true _ (b .rows) h)
+    (λ w e t. has-map (fillsRule w) (isRule n o s) (b .rules) e (λ r. rule-of-row n o s w r t)))
+
 module _ (n o s new : ℕ) where
   -- ---- one record
 
@@ -80,17 +89,9 @@ module _ (n o s new : ℕ) where
           (λ x y z a c h. absurd (false≢true (sym c ∙ rule-there x y z h)))
           (λ x y z w a c h. rules-old x y z w)
 
-      -- a row of the new key would have its rule there
-      no-rows : has (ofRule n o new) (b .rows) ≡ false
-      no-rows =
-          not-so (has (ofRule n o new) (b .rows)) (has (isRule n o new) (b .rules)) free
-          (λ h.
-          some-of (λ w. has (fillsRule w) (b .rules)) (ofRule n o new) (b .rows) (g .ruled) (has-true _ (b .rows) h)
-          (λ w e t. has-map (fillsRule w) (isRule n o new) (b .rules) e (λ r. rule-of-row n o new w r t)))
-
       rows-moved : Listed rowKind (movedRows (b .rows))
       rows-moved =
-          listed-changed (g .rows) (ofRule n o s) (ofRule n o new) (rowMoved new) no-rows (λ w z a. row-moved f w)
+          listed-changed (g .rows) (ofRule n o s) (ofRule n o new) (rowMoved new) (no-rows b g n o new free) (λ w z a. row-moved f w)
           (λ x y z a c h. absurd (false≢true (sym c ∙ row-there x y z h)))
           (λ x y z w a c h. rows-old x y z w h)
 

@@ -1,4 +1,5 @@
 pub mod DeskExample
+pub mod Lesson
 pub mod Marked
 pub mod Edges
 pub mod Order
@@ -17,3 +18,13 @@ pub mod KeptPeriods
 pub mod Kept
 pub mod Names
 pub mod Numerals
+pub mod Nobody
+pub mod Exactly
+pub mod ExerciseJudged
+pub mod ExerciseLines
+pub mod ExerciseOutIn
+pub mod ExerciseWays
+pub mod ExerciseVerdict
+pub mod ExerciseMoved
+pub mod ExerciseWithoutRows
+pub mod ExerciseDesks

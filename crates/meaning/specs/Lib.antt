@@ -14,3 +14,6 @@ pub mod Desk
 pub mod Writing
 pub mod Keler
 pub mod SameBook
+pub mod Nobody
+pub mod Exactly
+pub mod Exercise

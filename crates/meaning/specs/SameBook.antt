@@ -1,4 +1,5 @@
--- Two lone books with exactly the same records, in whatever order. Assumes nothing.
+-- Two lone books with exactly the same records, in whatever order: that each record is in both equally often is
+-- `Exactly`. Assumes nothing.
 use Rattle.tables.specs.Count.{Same}
 use Rattle.meaning.specs.Records.{Book}
 

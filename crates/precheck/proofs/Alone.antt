@@ -20,17 +20,17 @@ use Rattle.precheck.specs.Alone.{Run, done, sent, answersTo, OneAlone, T
 
 module _ (a : ℕ) (low : 1 ≤ a) (high : a ≤ 8) where
   -- what the promise says where the line names a, and where it does not
-  shared-answer : (b line : List ℕ) → depository line ≡ a → sound b ≡ true
+  pub shared-answer : (b line : List ℕ) → depository line ≡ a → sound b ≡ true
       → answerIn b line ≡ step (loneBook a b) line .answer
   unfolding answerIn
   shared-answer b line d s = rw (s, d)
 
-  named-after : (b b′ line : List ℕ) → names a line ≡ true → SameBook (loneBook a b′) (loneAfter a b line)
+  pub named-after : (b b′ line : List ℕ) → names a line ≡ true → SameBook (loneBook a b′) (loneAfter a b line)
       → SameBook (loneBook a b′) (step (loneBook a b) line .book)
   unfolding loneAfter
   named-after b b′ line e h = rw e at h
 
-  other-after : (b b′ line : List ℕ) → names a line ≡ false → SameBook (loneBook a b′) (loneAfter a b line)
+  pub other-after : (b b′ line : List ℕ) → names a line ≡ false → SameBook (loneBook a b′) (loneAfter a b line)
       → SameBook (loneBook a b′) (loneBook a b)
   unfolding loneAfter
   other-after b b′ line e h = rw e at h
@@ -50,11 +50,15 @@ module _ (a : ℕ) (low : 1 ≤ a) (high : a ≤ 8) where
       rw (e, first) (ap (_∷_ (step m line .answer)) rest))
       (λ e. rw e (from r m (t .stays s) (same-then (loneBook a b′) (loneBook a b) m (other-after b b′ line e (t .records s a low high)) h)))
 
+-- what the lone book answers, which is empty at first
+lone-from : (a : ℕ) (lines : List (List ℕ)) → answersFrom M.empty (keep (names a) lines) ≡ loneAnswers a lines
+unfolding loneAnswers answers
+lone-from a lines = refl
+
 -- Demand 3.
 pub one-alone : OneAlone
-unfolding loneAnswers answers
 one-alone lent book e lines as′ r a low high =
-    from a low high r M.empty (emptied-sound lent book e) (same-books (emptied-lone lent book e a low))
+    from a low high r M.empty (emptied-sound lent book e) (same-books (emptied-lone lent book e a low)) ∙ lone-from a lines
 
 pub two-runs : TwoRuns
 unfolding loneAnswers

@@ -1,2 +1,3 @@
 pub mod Alone
-pub mod Submits
+pub mod Runs
+pub mod Tries

@@ -1,3 +1,3 @@
 pub mod Promise
 pub mod Alone
-pub mod Taking
+pub mod Tries

@@ -2,18 +2,9 @@
 // either.
 ghost use mathlib.Core.Path.{_≡_};
 ghost use Rattle.book.specs.Emptied.{Emptied};
-ghost use Rattle.book.specs.Sound.{sound};
 ghost use Rattle.precheck.specs.Promise.{Submitted};
-ghost use Rattle.precheck.specs.Taking.{Took, Answers};
-use commands::Command;
-use commands::What;
-use commands::command_of;
-use commands::is_wrong;
-use edits::edit;
-use judge::judge;
-use line::read_line;
+use answering::answer;
 use meaning::Answer;
-use refusals::refusal;
 use soundness::is_sound;
 
 // Makes a book of no records from lent space of the exact size and answers 0; other sizes get 1 and stay untouched.
@@ -23,46 +14,9 @@ pub fn empty(book: &mut [u8]) -> u8
     book::empty(book)
 }
 
-// What a command does to a book: the first refusal that holds is the answer, and the book stays; else a question gets
-// its verdict, of which nothing is stored, and any other command is stored and gets K.
-fn take(book: &mut [u8], c: Command) -> Answer
-    ensures { λ r. ⌜ Took (now (book .entry)) c r (now (book .exit)) ⌝ }
-{
-    let n = refusal(book, c);
-    if n != 0 {
-        return Answer::Refused(n);
-    }
-    let what = c.what;
-    if let What::Ask(q) = what {
-        return Answer::Judged(judge(book, q));
-    }
-    edit(book, c);
-    Answer::Taken
-}
-
-// The answer to a line over a lent book that was found to be sound, or not to be; an accepted edit is stored in it.
-pub fn answer(book: &mut [u8], line: &[u8], sound: bool) -> Answer
-    ensures { λ r. ⌜ Answers sound (now (book .entry)) (now (line .entry)) r (now (book .exit)) ⌝ }
-{
-    if !sound {
-        return Answer::Refused(1);
-    }
-    let l = read_line(line);
-    if l.refusal != 0 {
-        return Answer::Refused(l.refusal);
-    }
-    let values = l.values;
-    let c = command_of(l.letter, values);
-    if is_wrong(c) {
-        return Answer::Refused(5);
-    }
-    take(book, c)
-}
-
 // The answer to a line over a lent book; an accepted edit is stored in it.
 pub fn submit(book: &mut [u8], line: &[u8]) -> Answer
     ensures { λ r. ⌜ Submitted (now (book .entry)) (now (line .entry)) r (now (book .exit)) ⌝ }
-    ensures { λ r. ⌜ Answers (sound (now (book .entry))) (now (book .entry)) (now (line .entry)) r (now (book .exit)) ⌝ }
 {
     let sound = is_sound(book);
     answer(book, line, sound)

@@ -7,7 +7,7 @@ use lib.Dec.{leb, ltb}
 use lib.ListN.{length}
 use Rattle.tables.specs.Count.{has}
 use Rattle.meaning.specs.Records as M
-use Rattle.meaning.specs.Refusals.{refusal}
+use Rattle.meaning.specs.Refusals.{conditions, refusal}
 use Rattle.places.specs.declared.RestrictionType.{RestrictionType}
 use Rattle.places.specs.declared.Rule.{Rule}
 use Rattle.places.specs.declared.Row.{Row}
@@ -22,6 +22,8 @@ use Rattle.commands.specs.Asked.{askedBy, asked}
 use Rattle.commands.specs.declared.What.{What}
 use Rattle.commands.specs.declared.Command.{Command}
 use Rattle.book.specs.Lone.{typesOf, rulesOf, rowsOf, periodsOf, loneBook}
+use Rattle.refusals.specs.Earliest.{Earliest}
+use Rattle.refusals.proofs.First.{earliest}
 
 module _ (b : List ℕ) (c d x y z u : ℕ) where
   pub refused-add-type : (r : RestrictionType) (held full : Bool) → x ≡ cond (leb (r .first) d) 6 y → y ≡ cond held 8 z
@@ -90,7 +92,11 @@ module _ (b : List ℕ) (c d x y z u : ℕ) where
 
 -- ---- of a command
 
-pub refused-as : (b : List ℕ) (c : Command) (w : What) (r : ℕ) → c .what ≡ w
-    → r ≡ refusal (loneBook (c .csd) b) (askedBy (c .day) (c .row) w)
-    → r ≡ refusal (loneBook (c .csd) b) (asked c)
-refused-as b c w r e f = rw e f
+module _ (b : List ℕ) (c : Command) (w : What) (r : ℕ) where
+  pub refused-as : c .what ≡ w → r ≡ refusal (loneBook (c .csd) b) (askedBy (c .day) (c .row) w)
+      → r ≡ refusal (loneBook (c .csd) b) (asked c)
+  refused-as e f = rw e f
+
+  pub refused-first : c .what ≡ w → r ≡ refusal (loneBook (c .csd) b) (askedBy (c .day) (c .row) w)
+      → Earliest (conditions (loneBook (c .csd) b) (asked c)) r
+  refused-first e f = rw (refused-as e f) (earliest (loneBook (c .csd) b) (asked c))

@@ -5,11 +5,12 @@ ghost use lib.Dec.{leb};
 ghost use lib.ListN.{length};
 ghost use Rattle.tables.specs.Count.{has};
 ghost use Rattle.meaning.specs.Records.{typeQuota, ruleQuota, rowQuota, periodQuota, addType, endType, addRule, reorder, deleteRule, addRow, deleteRow, addPeriod, endPeriod};
-ghost use Rattle.meaning.specs.Refusals.{refusal};
+ghost use Rattle.meaning.specs.Refusals.{conditions, refusal};
 ghost use Rattle.records.specs.Said.{typeOf, ruleOf, rowOf, periodOf};
 ghost use Rattle.records.specs.Asks.{typeMeets, ruleMeets, rowMeets, periodMeets};
 ghost use Rattle.book.specs.Lone.{typesOf, rulesOf, rowsOf, periodsOf, loneBook};
 ghost use Rattle.commands.specs.Asked.{asked};
+ghost use Rattle.refusals.specs.Earliest.{Earliest};
 use basics::no;
 use book::count_periods;
 use book::count_rows;
@@ -172,9 +173,11 @@ fn refuse_end_period(b: &[u8], csd: u8, day: u32, p: Period) -> u8
 
 // ---- Of a command.
 
-// 0 where none holds: no condition of the list is a question's.
+// The earliest of 6 to 10 whose condition holds over the depository's lone book, 0 where none does: no condition of the
+// list is a question's.
 pub fn refusal(b: &[u8], c: Command) -> u8
-    ensures { λ r. ⌜ r ≡ refusal (loneBook (c .csd) (now (b .entry))) (asked c) ⌝ }
+    ensures meant { λ r. ⌜ r ≡ refusal (loneBook (c .csd) (now (b .entry))) (asked c) ⌝ }
+    ensures earliest { λ r. ⌜ Earliest (conditions (loneBook (c .csd) (now (b .entry))) (asked c)) r ⌝ }
 {
     let csd = c.csd;
     let w = c.row;

@@ -16,8 +16,8 @@ use Rattle.rules.specs.declared.First.the-variants.{At, Nothing}
 
 -- ---- one rule, by its sign
 
-pub decides : (r : ListedRule) → r .sign ≡ positive → r .matches ≡ mayDecide r
-decides r e = rw (eq-eqb (r .sign) positive e)
+pub decides : (r : ListedRule) (b : Bool) → r .sign ≡ positive → b ≡ r .matches → b ≡ mayDecide r
+decides r b e f = rw (eq-eqb (r .sign) positive e) f
 
 pub passes : (r : ListedRule) → (r .sign ≡ positive → ⊥) → false ≡ mayDecide r
 passes r d = rw (ne-eqb (r .sign) positive d)

@@ -1,5 +1,7 @@
 pub mod Counts
 pub mod Lists
+pub mod Least
+pub mod Outs
 pub mod Limits
 pub mod Lone
 pub mod Room

@@ -13,7 +13,7 @@ use Rattle.tables.proofs.Counts.{cases, both, agree, bit-none, count-ke
 
 -- whether n is a number from 1 to k
 
-low : ℕ → ℕ → Bool
+unfoldable pub low : ℕ → ℕ → Bool
 low k zero = false
 low k (suc n) = leb (suc n) k
 
@@ -156,7 +156,7 @@ module _ {R : Type 0} where
 
   -- ---- the least number: the ranges from 1 on that it is in are those that some record's number is in
 
-  low-least : (k : ℕ) (f : R → ℕ) (p : R → Bool) (l : List R) → low k (least f p l) ≡ has (λ x. p x && low k (f x)) l
+  pub low-least : (k : ℕ) (f : R → ℕ) (p : R → Bool) (l : List R) → low k (least f p l) ≡ has (λ x. p x && low k (f x)) l
   unfolding least low has
   low-least k f p [] = refl
   low-least k f p (x ∷ l) =

@@ -1,5 +1,5 @@
 -- `edits::edit` meets its contract. Assumes nothing.
-use Rattle.edits.proofs.Does.{edit-T, edit-E, edit-R, edit-O, edit-D, edit-M, edit-N, edit-A, edit-Z, edit-Q}
+use Rattle.edits.proofs.Does.{edit-T, edit-E, edit-R, edit-O, edit-D, edit-M, edit-N, edit-A, edit-Z, edit-Q, edit-meant}
 use borrow.Author.Needs.{needs}
 use Rattle.edits.proofs.edit.Statement.{statement}
 use Rattle.edits.proofs.edit.Tie as tie
@@ -33,21 +33,21 @@ edit-spec =
     (λ c κs. search needs)
     (λ c. search needs)
     (λ c. search needs)
-    (λ c. search edit-T)
+    (λ c. search (edit-T, edit-meant))
     (λ c. search needs)
-    (λ c. search edit-E)
+    (λ c. search (edit-E, edit-meant))
     (λ c. search needs)
-    (λ c. search edit-R)
+    (λ c. search (edit-R, edit-meant))
     (λ c. search needs)
-    (λ c. search edit-O)
+    (λ c. search (edit-O, edit-meant))
     (λ c. search needs)
-    (λ c. search edit-D)
+    (λ c. search (edit-D, edit-meant))
     (λ c. search needs)
-    (λ c. search edit-M)
+    (λ c. search (edit-M, edit-meant))
     (λ c. search needs)
-    (λ c. search edit-N)
+    (λ c. search (edit-N, edit-meant))
     (λ c. search needs)
-    (λ c. search edit-A)
+    (λ c. search (edit-A, edit-meant))
     (λ c. search needs)
-    (λ c. search edit-Z)
-    (λ c. search edit-Q))
+    (λ c. search (edit-Z, edit-meant))
+    (λ c. search (edit-Q, edit-meant)))

@@ -1,4 +1,4 @@
--- `judge::judge` meets its contract. Assumes nothing.
+-- `judge::judge` meets its contract; facts are named, so that a wrong one is refused for certain. Assumes nothing.
 use borrow.Author.Needs.{needs}
 use Rattle.judge.proofs.Judging.{by-stages}
 use Rattle.judge.proofs.judge.Statement.{statement}
@@ -18,4 +18,13 @@ judge-spec =
     (λ c. search needs)
     (λ c. search needs)
     (λ c κs. search needs)
-    (λ c. search by-stages))
+    (λ c.
+    let types = c .before .before .before in
+    let signs = types .before .before in
+    let rows = signs .before .before .before in
+    by-stages _ _ _ _ _ _ _
+    (c .verdict .ensures)
+    (types .types-named .ensures)
+    (signs .signs-matched .ensures)
+    (rows .mark-rules .ensures)
+    (rows .before .before .row-space .ensures)))

@@ -11,5 +11,5 @@ lesser-spec =
     (tie.spec
     (λ c. search needs)
     (λ c. lesser-only _ _ (c .if2 .taken))
-    (λ c. lesser-low _ _ (omega arith) (omega arith))
+    (λ c. lesser-low (c .before .before .before .args .a) (c .before .before .before .args .b) (omega arith) (omega arith))
     (λ c. lesser-high (c .before .before .before .args .a) (c .before .before .before .args .b) (omega arith) (omega arith)))

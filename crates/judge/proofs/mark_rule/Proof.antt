@@ -2,6 +2,7 @@
 use mathlib.Core.Path.{refl}
 use Rattle.tables.proofs.Keying.{place-own, place-other}
 use borrow.Author.Needs.{needs}
+use Rattle.judge.specs.Stages.{signedKey}
 use Rattle.judge.proofs.mark_rule.Statement.{statement}
 use Rattle.judge.proofs.mark_rule.Tie as tie
 
@@ -19,7 +20,7 @@ mark-rule-spec =
     (λ c.
     let keyed = c .before .before .before .before .before in
     let own = keyed .before .before .before in
-    place-own _ _ _ _ _ _ _ _ _ _ _ _ _
+    place-own _ _ signedKey _ _ _ (keyed .before .before .rule-at .result) _ _ _ _ _ _
     (c .before .before .store .ensures)
     (c .before .before .before .rule-of-type .ensures)
     refl

@@ -1,5 +1,5 @@
 -- `precheck::submit` meets its contract. Assumes nothing.
-use Rattle.precheck.proofs.Submits.{submits, exactly}
+use Rattle.answering.proofs.Submits.{submits}
 use borrow.Author.Needs.{needs}
 use Rattle.precheck.proofs.submit.Statement.{statement}
 use Rattle.precheck.proofs.submit.Tie as tie
@@ -11,4 +11,4 @@ submit-spec =
     (λ c κs. search needs)
     (λ c κs. search needs)
     (λ c. search needs)
-    (λ c. search (submits, exactly)))
+    (λ c. search submits))

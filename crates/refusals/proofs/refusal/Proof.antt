@@ -1,7 +1,7 @@
 -- `refusals::refusal` meets its contract. Assumes nothing.
 use Rattle.meaning.specs.Refusals.{refusal}
 use Rattle.commands.specs.Asked.{askedBy}
-use Rattle.refusals.proofs.Refuse.{refused-as}
+use Rattle.refusals.proofs.Refuse.{refused-as, refused-first}
 use borrow.Author.Needs.{needs}
 use Rattle.refusals.proofs.refusal.Statement.{statement}
 use Rattle.refusals.proofs.refusal.Tie as tie
@@ -30,13 +30,13 @@ refusal-spec =
     (λ c. search needs)
     (λ c κs. search needs)
     (λ c. search needs)
-    (λ c. search refused-as)
-    (λ c. search refused-as)
-    (λ c. search refused-as)
-    (λ c. search refused-as)
-    (λ c. search refused-as)
-    (λ c. search refused-as)
-    (λ c. search refused-as)
-    (λ c. search refused-as)
-    (λ c. search refused-as)
-    (λ c. search refused-as))
+    (λ c. search (refused-as, refused-first))
+    (λ c. search (refused-as, refused-first))
+    (λ c. search (refused-as, refused-first))
+    (λ c. search (refused-as, refused-first))
+    (λ c. search (refused-as, refused-first))
+    (λ c. search (refused-as, refused-first))
+    (λ c. search (refused-as, refused-first))
+    (λ c. search (refused-as, refused-first))
+    (λ c. search (refused-as, refused-first))
+    (λ c. search (refused-as, refused-first)))

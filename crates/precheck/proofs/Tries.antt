@@ -1,0 +1,175 @@
+-- What a reviewer will try, and the slips of this trade: none keeps the promise.
+use Prim.Native.Nat.{ℕ, _≤_}
+use mathlib.Core.Path.{_≡_, refl, ap, sym, _∙_}
+use mathlib.Core.Bool.{true, false, false≢true}
+use mathlib.Core.List.{List, [], _∷_}
+use native.Mathlib.Omega.{arith}
+use lib.ListN.{length}
+use Rattle.tables.specs.Bytes.{zeros}
+use Rattle.tables.specs.Count.{keep}
+use Rattle.tables.proofs.Zeros.{length-zeros}
+use Rattle.tables.proofs.Lists.{same-length}
+use Rattle.tables.proofs.Counts.{cases}
+use Rattle.meaning.specs.Text.{same}
+use Rattle.meaning.specs.Records as M
+use Rattle.meaning.specs.SameBook.{SameBook}
+use Rattle.meaning.specs.Lone.{step, after, names}
+use Rattle.meaning.specs.Printing.{printed}
+use Rattle.meaning.specs.declared.Answer.{Answer}
+use Rattle.meaning.specs.declared.Answer.the-variants.{Taken}
+use Rattle.meaning.proofs.Order.{step-same}
+use Rattle.meaning.proofs.Names.{names-depository}
+use Rattle.meaning.proofs.SameLists.{same-self}
+use Rattle.places.specs.Layout.{bookSize}
+use Rattle.book.specs.Lone.{typesOf, loneBook}
+use Rattle.book.specs.Sound.{sound}
+use Rattle.book.proofs.NoRecords.{emptied-yes, emptied-sound, emptied-lone}
+use Rattle.book.proofs.SameBooks.{same-books, same-then}
+use Rattle.precheck.specs.Promise.{Submitted}
+use Rattle.precheck.specs.Alone.{Run, done, sent}
+use Rattle.precheck.specs.Tries.{bookLeft, LeftBy, SomeLeft, Refuted, typeLine, neighboursLine, deskLines, ruleLine, ruleLines, Tries, kelerBook, movedLines, Slips}
+use Rattle.precheck.proofs.Alone.{shared-answer, named-after, other-after}
+use Rattle.precheck.proofs.Runs.{some-run}
+
+-- ---- there are such books
+
+some-left : (lines : List (List ℕ)) → SomeLeft lines
+some-left lines =
+    let r = some-run (zeros bookSize) lines in
+    let size = length-zeros bookSize in
+    record {
+      book = bookLeft (r .run);
+      leftBy = record {
+        lent = zeros bookSize;
+        start = zeros bookSize;
+        emptied = emptied-yes (zeros bookSize) (zeros bookSize) size (ap zeros (sym size));
+        answers = r .answers;
+        run = r .run;
+        left = refl;
+      };
+    }
+
+-- ---- what a run leaves
+
+left-sound : {b : List ℕ} {lines : List (List ℕ)} {as′ : List Answer} (r : Run b lines as′) → sound b ≡ true
+    → sound (bookLeft r) ≡ true
+unfolding bookLeft
+left-sound done s = s
+left-sound (sent t r) s = left-sound r (t .stays s)
+
+-- of each depository the lone book after the lines that name it
+module _ (a : ℕ) (low : 1 ≤ a) (high : a ≤ 8) where
+  left-lone : {b : List ℕ} {lines : List (List ℕ)} {as′ : List Answer} (r : Run b lines as′) (m : M.Book)
+      → sound b ≡ true → SameBook (loneBook a b) m → SameBook (loneBook a (bookLeft r)) (after m (keep (names a) lines))
+  unfolding bookLeft keep after
+  left-lone done m s h = h
+  left-lone (sent {book = b} {next = n} {line = line} t r) m s h =
+      cases (names a line)
+      (λ e.
+      rw e
+      (left-lone r (step m line .book) (t .stays s)
+      (same-then (loneBook a n) (step (loneBook a b) line .book) (step m line .book)
+      (named-after a low high b n line e (t .records s a low high)) (step-same (loneBook a b) m h line .book))))
+      (λ e.
+      rw e
+      (left-lone r m (t .stays s)
+      (same-then (loneBook a n) (loneBook a b) m (other-after a low high b n line e (t .records s a low high)) h)))
+
+-- ---- what lines leave of an emptied book is sound, and of each depository the lone book after those that name it
+
+module _ (lines : List (List ℕ)) (b : List ℕ) (l : LeftBy lines b) where
+  held-sound : sound b ≡ true
+  held-sound = rw (← (l .left)) (left-sound (l .run) (emptied-sound (l .lent) (l .start) (l .emptied)))
+
+  module _ (a : ℕ) (low : 1 ≤ a) (high : a ≤ 8) where
+    abbrev m : M.Book
+    m = after M.empty (keep (names a) lines)
+
+    held : SameBook (loneBook a b) m
+    held =
+        rw (← (l .left))
+        (left-lone a low high (l .run) M.empty (emptied-sound (l .lent) (l .start) (l .emptied))
+        (same-books (emptied-lone (l .lent) (l .start) (l .emptied) a low)))
+
+    module _ (line b′ : List ℕ) (x : Answer) (t : Submitted b line x b′) where
+      -- the answer to a line that names the depository, and its records after it, are the lone book's
+      answer-held : names a line ≡ true → x ≡ step m line .answer
+      answer-held e =
+          t .answered ∙ shared-answer a low high b line (names-depository a line low high e) held-sound
+          ∙ step-same (loneBook a b) m held line .answer
+
+      book-held : names a line ≡ true → SameBook (loneBook a b′) (step m line .book)
+      book-held e =
+          same-then (loneBook a b′) (step (loneBook a b) line .book) (step m line .book)
+          (named-after a low high b b′ line e (t .records held-sound a low high))
+          (step-same (loneBook a b) m held line .book)
+
+      -- any other line leaves its records
+      other-held : names a line ≡ false → SameBook (loneBook a b′) m
+      other-held e =
+          same-then (loneBook a b′) (loneBook a b) m
+          (other-after a low high b b′ line e (t .records held-sound a low high)) held
+
+-- ---- an answer, by the lone book after the lines that name the depository
+
+refuted : (a : ℕ) → 1 ≤ a → a ≤ 8 → (lines : List (List ℕ)) (line right wrong : List ℕ) → names a line ≡ true
+    → printed (step (after M.empty (keep (names a) lines)) line .answer) ≡ right → same right wrong ≡ false
+    → Refuted lines line right wrong
+refuted a low high lines line right wrong n y d =
+    let one : (b b′ : List ℕ) (x : Answer) → LeftBy lines b → Submitted b line x b′ → printed x ≡ right =
+    λ b b′ x l t. ap printed (answer-held lines b l a low high line b′ x t n) ∙ y in
+    record {
+      only = one;
+      never = λ b b′ x l e t. false≢true (sym d ∙ ap (same right) (sym e ∙ one b b′ x l t) ∙ same-self right);
+    }
+
+-- ---- what is left, by the number of types
+
+-- how many types a book of the same records holds
+types-held : (m n : M.Book) → SameBook m n → length (m .types) ≡ length (n .types)
+types-held m n h = same-length (m .types) (n .types) (h .types)
+
+-- the emptied book holds no type, the book after the line one
+stores-nothing : (b b′ : List ℕ) → LeftBy [] b → SameBook (loneBook 2 b′) (loneBook 2 b)
+    → Submitted b typeLine Taken b′ → ⊥
+unfolding names keep after step
+stores-nothing b b′ l h t =
+    let one : length (typesOf 2 b′) ≡ 1 =
+    types-held (loneBook 2 b′) (step M.empty typeLine .book)
+    (book-held [] b l 2 (omega arith) (omega arith) typeLine b′ Taken t refl) in
+    let none : length (typesOf 2 b) ≡ 0 =
+    types-held (loneBook 2 b) M.empty (held [] b l 2 (omega arith) (omega arith)) in
+    omega (arith, one, none, types-held (loneBook 2 b′) (loneBook 2 b) h)
+
+-- a neighbour's type stays
+neighbour-changed : (b b′ : List ℕ) (x : Answer) → LeftBy (neighboursLine ∷ []) b → SameBook (loneBook 1 b′) M.empty
+    → Submitted b typeLine x b′ → ⊥
+unfolding names keep after step
+neighbour-changed b b′ x l h t =
+    let one : length (typesOf 1 b′) ≡ 1 =
+    types-held (loneBook 1 b′) (step M.empty neighboursLine .book)
+    (other-held (neighboursLine ∷ []) b l 1 (omega arith) (omega arith) typeLine b′ x t refl) in
+    omega (arith, one, types-held (loneBook 1 b′) M.empty h)
+
+-- ---- the statements: what the lone book answers is computed
+
+pub tries : Tries
+unfolding deskLines ruleLine ruleLines names keep after step printed
+tries = record {
+  books = some-left;
+  accepts-every-question = refuted 2 (omega arith) (omega arith) _ _ _ _ refl refl refl;
+  refuses-every-line = λ n. refuted 2 (omega arith) (omega arith) _ _ _ _ refl refl refl;
+  stores-nothing = stores-nothing;
+  says-ten = refuted 2 (omega arith) (omega arith) _ _ _ _ refl refl refl;
+  never-ten = refuted 2 (omega arith) (omega arith) _ _ _ _ refl refl refl;
+}
+
+pub slips : Slips
+unfolding kelerBook movedLines ruleLine ruleLines names keep after step printed
+slips = record {
+  first-match = refuted 1 (omega arith) (omega arith) _ _ _ _ refl refl refl;
+  every-status = refuted 1 (omega arith) (omega arith) _ _ _ _ refl refl refl;
+  neighbours-quota = refuted 2 (omega arith) (omega arith) _ _ _ _ refl refl refl;
+  first-stored = refuted 2 (omega arith) (omega arith) _ _ _ _ refl refl refl;
+  neighbour-changed = neighbour-changed;
+}

@@ -1,0 +1,132 @@
+-- 'What a reviewer will try' (document 01): for each of these pre-checks a book and a line are named at which its
+-- answer, or what it leaves, breaks the promise of `submit`. Stated here, proved in proofs/Tries. Assumes nothing.
+use Prim.Native.Nat.{ℕ, zero, suc}
+use mathlib.Core.Path.{_≡_}
+use mathlib.Core.List.{List, [], _∷_, _++_}
+use Rattle.meaning.specs.Text.{bytes, numeral}
+use Rattle.meaning.specs.Records as M
+use Rattle.meaning.specs.SameBook.{SameBook}
+use Rattle.meaning.specs.Printing.{printed}
+use Rattle.meaning.specs.Keler.{kelerLines}
+use Rattle.meaning.specs.declared.Answer.{Answer}
+use Rattle.meaning.specs.declared.Answer.the-variants.{Taken, Refused}
+use Rattle.book.specs.Emptied.{Emptied}
+use Rattle.book.specs.Lone.{loneBook}
+use Rattle.precheck.specs.Promise.{Submitted}
+use Rattle.precheck.specs.Alone.{Run, done, sent}
+
+-- ---- the books: what lines sent one by one leave of an emptied book
+
+unfoldable pub bookLeft : {book : List ℕ} {lines : List (List ℕ)} {answers : List Answer} → Run book lines answers
+    → List ℕ
+bookLeft (done {book = book}) = book
+bookLeft (sent submitted run) = bookLeft run
+
+pub record LeftBy (lines : List (List ℕ)) (book : List ℕ) : Type 0 where
+  pub lent : List ℕ
+  pub start : List ℕ
+  pub emptied : Emptied lent start 0
+  pub answers : List Answer
+  pub run : Run start lines answers
+  pub left : bookLeft run ≡ book
+
+-- one that they leave
+pub record SomeLeft (lines : List (List ℕ)) : Type 0 where
+  pub book : List ℕ
+  pub leftBy : LeftBy lines book
+
+-- over every such book the one answer to the line that keeps the promise is printed `right`, so that none printed
+-- `wrong` keeps it, whatever bytes it leaves
+pub record Refuted (lines : List (List ℕ)) (line right wrong : List ℕ) : Type 0 where
+  pub only : (before after : List ℕ) (answer : Answer) → LeftBy lines before → Submitted before line answer after
+      → printed answer ≡ right
+  pub never : (before after : List ℕ) (answer : Answer) → LeftBy lines before → printed answer ≡ wrong
+      → Submitted before line answer after → ⊥
+
+-- ---- the lines
+
+abbrev pub typeLine : List ℕ
+typeLine = bytes "T,2,20170206,9,1,3,20170207,20991231"
+
+abbrev pub neighboursLine : List ℕ
+neighboursLine = bytes "T,1,20170206,9,1,3,20170207,20991231"
+
+-- the desk example's type, rule and row, and its first question
+unfoldable pub deskLines : List (List ℕ)
+deskLines =
+    typeLine ∷ bytes "R,2,20170206,9,1,5,P,4,20170207,20991231" ∷ bytes "M,2,20170206,9,1,5,,,FREE,,,,,,," ∷ []
+
+abbrev pub question : List ℕ
+question = bytes "Q,2,20170207,1,2,DELI,FREE,,EUR,11,20,30"
+
+-- the depository's rule of that sequence
+unfoldable pub ruleLine : ℕ → ℕ → List ℕ
+unfolding numeral
+ruleLine csd sequence =
+    bytes "R," ++ numeral csd ++ bytes ",20170206,9,1," ++ numeral sequence ++ bytes ",P,4,20170207,20991231"
+
+-- its rules n to 1
+unfoldable pub ruleLines : ℕ → ℕ → List (List ℕ)
+unfolding ruleLine
+ruleLines csd zero = []
+ruleLines csd (suc n) = ruleLine csd (suc n) ∷ ruleLines csd n
+
+-- ---- the four tries
+
+pub record Tries : Type 0 where
+  -- there are such books
+  pub books : (lines : List (List ℕ)) → SomeLeft lines
+  -- 'accepts every question without a hold'
+  pub accepts-every-question : Refuted deskLines question (bytes "V,A,0,0,0,0,9,5") (bytes "V,A,0,0,0,0,0,0")
+  -- 'refuses every line', by whatever number
+  pub refuses-every-line : (n : ℕ) → Refuted [] typeLine (bytes "K") (printed (Refused n))
+  -- 'takes edits with K and stores nothing': the depository's records stay
+  pub stores-nothing :
+      (before after : List ℕ) → LeftBy [] before → SameBook (loneBook 2 after) (loneBook 2 before)
+      → Submitted before typeLine Taken after → ⊥
+  -- 'says 10 below the quota': 63 rules are held, the line gives the 64th
+  pub says-ten : Refuted (typeLine ∷ ruleLines 2 63) (ruleLine 2 64) (bytes "K") (bytes "F,10")
+  -- and at the quota 10 is right
+  pub never-ten : Refuted (typeLine ∷ ruleLines 2 64) (ruleLine 2 65) (bytes "F,10") (bytes "K")
+
+-- ---- the slips of this trade, and a neighbour
+
+-- the KELER set as csd 1, and two of the marked questions' periods
+unfoldable pub kelerBook : List (List ℕ)
+unfolding kelerLines
+kelerBook =
+    kelerLines 1 20170205 20170206 20991231
+    ++ (bytes "A,1,20170205,P,10,101,20170301,20170331" ∷ bytes "A,1,20170205,P,12,103,20170301,20170331" ∷ [])
+
+-- the broader rule 7 beside rule 5, which is then taken out and put back as 9
+unfoldable pub movedLines : List (List ℕ)
+unfolding deskLines
+movedLines =
+    deskLines
+    ++ (bytes "R,2,20170206,9,1,7,P,2,20170207,20991231"
+    ∷ bytes "M,2,20170206,9,1,7,,DELI,,,,,,,,"
+    ∷ bytes "N,2,20170206,9,1,5,,,FREE,,,,,,,"
+    ∷ bytes "D,2,20170206,9,1,5"
+    ∷ bytes "R,2,20170206,9,1,9,P,4,20170207,20991231"
+    ∷ bytes "M,2,20170206,9,1,9,,,FREE,,,,,,,"
+    ∷ [])
+
+pub record Slips : Type 0 where
+  -- 'Stopping at the first match of either sign': marked question 5
+  pub first-match :
+      Refuted kelerBook (bytes "Q,1,20170315,1,2,DELI,FREE,CORP,EUR,10,25,30") (bytes "V,A,0,0,0,0,0,0")
+      (bytes "V,R,1,1,0,0,0,0")
+  -- 'Exempting CORP for every status': marked question 6
+  pub every-status :
+      Refuted kelerBook (bytes "Q,1,20170315,1,2,DELI,FREE,CORP,EUR,12,25,30") (bytes "V,R,1,1,0,0,0,0")
+      (bytes "V,A,0,0,0,0,0,0")
+  -- 'a neighbour's rules bring refusal 10': depository 1 holds 64, depository 2 no rule
+  pub neighbours-quota :
+      Refuted (neighboursLine ∷ ruleLines 1 64 ++ (typeLine ∷ [])) (ruleLine 2 1) (bytes "K")
+      (bytes "F,10")
+  -- 'Naming the first rule found in storage after a deletion has moved records'
+  pub first-stored : Refuted movedLines question (bytes "V,A,0,0,0,0,9,7") (bytes "V,A,0,0,0,0,9,9")
+  -- a line changes a neighbour's records: depository 1 holds a type before the line of depository 2, and none after it
+  pub neighbour-changed :
+      (before after : List ℕ) (answer : Answer) → LeftBy (neighboursLine ∷ []) before
+      → SameBook (loneBook 1 after) M.empty → Submitted before typeLine answer after → ⊥
