@@ -11,7 +11,7 @@ import sys
 import book
 
 RUNS = 5            # runs of each kind; the quickest counts
-PIECE = 65536       # the desk reads this much at a time
+COUNTED = 131072    # bytes of the desk's lines whose instructions are counted
 SUBMIT_ROOM = 600000  # precheck_main reads no more
 BLOCK = 20000       # lines made; more are had by repeating them
 SUBMIT, STEP, FLAT, MAPS = "submit", "step", "flat", "maps"
@@ -98,9 +98,6 @@ def measured_lines(program, base, alone, block, budget, work):
                 break
             count *= 4
     count = most if rate <= 0 else max(64, min(most, int(budget / rate)))
-    if program == STEP:
-        # Whole pieces, so that the soundness checks made for them are counted rightly.
-        count = max(1, round(count * size / PIECE)) * PIECE / size
     return int(count) // 8 * 8
 
 
@@ -138,33 +135,20 @@ def times(work):
                       f" {1 / cost if cost > 0 else 0:>15,.0f} {ratio:>12}", flush=True)
 
 
-def instructions_of(command, pieces, work):
-    """Instructions of one run. Each piece is one read of the program: a packet pipe parts them."""
+def instructions_of(command, text, work):
+    """Instructions of one run."""
     out = os.path.join(work, "callgrind.out")
     valgrind = ["valgrind", "--tool=callgrind", f"--callgrind-out-file={out}", "--log-file=" + os.path.join(work, "valgrind.log")]
-    env = {**os.environ, **PLAIN_COPIES}
-    if isinstance(pieces, bytes):
-        with open(os.path.join(work, "text"), "wb") as file:
-            file.write(pieces)
-        with open(os.path.join(work, "text"), "rb") as stdin:
-            child = subprocess.Popen(valgrind + command, stdin=stdin, stdout=subprocess.DEVNULL, env=env)
-    else:
-        source, sink = os.pipe2(os.O_DIRECT | os.O_CLOEXEC)
-        child = subprocess.Popen(valgrind + command, stdin=source, stdout=subprocess.DEVNULL, env=env)
-        os.close(source)
-        for piece in pieces:
-            os.write(sink, piece)
-        os.close(sink)
+    with open(os.path.join(work, "text"), "wb") as file:
+        file.write(text)
+    with open(os.path.join(work, "text"), "rb") as stdin:
+        child = subprocess.Popen(valgrind + command, stdin=stdin, stdout=subprocess.DEVNULL, env={**os.environ, **PLAIN_COPIES})
     if child.wait():
         sys.exit(f"valgrind {' '.join(command)} failed")
     with open(out) as file:
         total = re.search(r"^(?:totals|summary): (\d+)", file.read(), re.M)
     os.remove(out)
     return int(total.group(1))
-
-
-def cut(text, size):
-    return [text[i:i + size] for i in range(0, len(text), size)]
 
 
 def instructions(work):
@@ -176,21 +160,14 @@ def instructions(work):
     for which in BOOKS:
         base = text_of(book.book_lines(which))
         blocks = {kind: make(which, BLOCK) for kind, make in KINDS.items()}
-        # Submit itself, where the book is not too slow to build under valgrind.
-        if which == "empty":
-            alone = instructions_of(PROGRAMS[SUBMIT], base, work)
-            for kind, block in blocks.items():
-                text = base + text_of(block[:200])
-                show(which, kind, NAMES[SUBMIT], 200, instructions_of(PROGRAMS[SUBMIT], text, work) - alone)
-        # The desk with each line a piece of its own checks soundness for each line, as submit does.
         few = 200 if which == "empty" else 8
-        alone = instructions_of(PROGRAMS[STEP], cut(base, 4096), work)
+        alone = instructions_of(PROGRAMS[SUBMIT], base, work)
         for kind, block in blocks.items():
-            pieces = cut(base, 4096) + [text_of([line]) for line in block[:few]]
-            show(which, kind, "ours, a line a piece (desk)", few, instructions_of(PROGRAMS[STEP], pieces, work) - alone)
+            text = base + text_of(block[:few])
+            show(which, kind, NAMES[SUBMIT], few, instructions_of(PROGRAMS[SUBMIT], text, work) - alone)
         alone = instructions_of(PROGRAMS[STEP], base, work)
         for kind, block in blocks.items():
-            count = int(2 * PIECE / (len(text_of(block)) / len(block))) // 8 * 8
+            count = int(COUNTED / (len(text_of(block)) / len(block))) // 8 * 8
             text = base + text_of(block[:count])
             show(which, kind, NAMES[STEP], count, instructions_of(PROGRAMS[STEP], text, work) - alone)
 
