@@ -17,6 +17,7 @@ pub mod KeptOrder
 pub mod KeptPeriods
 pub mod Kept
 pub mod Names
+pub mod HowSent
 pub mod Numerals
 pub mod Nobody
 pub mod Exactly

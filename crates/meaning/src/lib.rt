@@ -20,3 +20,9 @@ pub enum Answer {
     Refused(u8),
     Judged(Verdict),
 }
+
+// How a line was sent: alone, or in a batch of a depository.
+pub enum Sent {
+    Alone,
+    InBatch(u8),
+}
