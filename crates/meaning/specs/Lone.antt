@@ -1,8 +1,8 @@
 -- The lone book's answers to a list of lines (document 01, 'One depository alone'), each of which was sent alone or in
 -- a batch of a depository (document 02, request a). Assumes nothing.
 use Prim.Native.Nat.{ℕ, zero, suc, _+_, _-_}
-use mathlib.Core.Bool.{Bool, true, false, cond, not, _||_}
-use mathlib.Core.List.{List, [], _∷_}
+use mathlib.Core.Bool.{Bool, true, false, cond, not, _&&_, _||_}
+use mathlib.Core.List.{List, [], _∷_, map}
 use mathlib.Core.Option.{Option, some, none}
 use lib.Dec.{eqb}
 use lib.ListN.{getD}
@@ -89,16 +89,31 @@ unfoldable pub step : Book → List ℕ → Step
 unfolding stepSent
 step b line = stepSent Alone b line
 
-unfoldable pub answersFrom : Book → List (List ℕ) → List Answer
-unfolding step
-answersFrom b [] = []
-answersFrom b (line ∷ lines) = let s = step b line in s .answer ∷ answersFrom (s .book) lines
+-- the answers to a list of lines, each told how it was sent
+unfoldable pub answersSent : Book → List (Sent × List ℕ) → List Answer
+unfolding stepSent
+answersSent b [] = []
+answersSent b (l ∷ ls) = let s = stepSent (l .0) b (l .1) in s .answer ∷ answersSent (s .book) ls
 
--- the book after a list of lines
+-- and the book after them
+unfoldable pub afterSent : Book → List (Sent × List ℕ) → Book
+unfolding stepSent
+afterSent b [] = b
+afterSent b (l ∷ ls) = afterSent (stepSent (l .0) b (l .1) .book) ls
+
+-- lines, each sent so
+abbrev pub told : Sent → List (List ℕ) → List (Sent × List ℕ)
+told how = map (λ line. (how, line))
+
+-- the answers to lines sent alone
+unfoldable pub answersFrom : Book → List (List ℕ) → List Answer
+unfolding answersSent step
+answersFrom b lines = answersSent b (told Alone lines)
+
+-- the book after them
 unfoldable pub after : Book → List (List ℕ) → Book
-unfolding step
-after b [] = b
-after b (line ∷ lines) = after (step b line .book) lines
+unfolding afterSent step
+after b lines = afterSent b (told Alone lines)
 
 -- the answers of the lone book, all of whose lists are empty at first
 unfoldable pub answers : List (List ℕ) → List Answer
@@ -125,3 +140,14 @@ depository line = digit (getD (fields line) 1 [])
 unfoldable pub loneAnswers : ℕ → List (List ℕ) → List Answer
 unfolding keep names answers
 loneAnswers csd lines = answers (keep (names csd) lines)
+
+-- a line counts as the depository's if it names it and did not come in a batch of another
+unfoldable pub counts : ℕ → Sent × List ℕ → Bool
+unfolding names elsewhere
+counts csd l = not (elsewhere (l .0) csd) && names csd (l .1)
+
+-- what the depository's lone book, all of whose lists are empty at first, answers, fed only the lines that count as
+-- its own and told how each was sent
+unfoldable pub loneAnswersSent : ℕ → List (Sent × List ℕ) → List Answer
+unfolding keep counts answersSent
+loneAnswersSent csd ls = answersSent empty (keep (counts csd) ls)

@@ -26,3 +26,9 @@ pub enum Sent {
     Alone,
     InBatch(u8),
 }
+
+// What a batch is answered: its refusal's number, or how many lines it has; their answers are in the answer space.
+pub enum Batch {
+    Refused(u8),
+    Answered(usize),
+}
