@@ -15,7 +15,7 @@ use Rattle.meaning.specs.Desk.{linesOf}
 use Rattle.meaning.specs.Reading.{reading}
 use Rattle.meaning.specs.Records as M
 use Rattle.meaning.specs.SameBook.{SameBook}
-use Rattle.meaning.specs.Lone.{told, names, depository}
+use Rattle.meaning.specs.Lone.{told, stepSent, step, names, depository}
 use Rattle.meaning.specs.Printing.{numbersOf}
 use Rattle.meaning.specs.declared.Answer.{Answer}
 use Rattle.meaning.specs.declared.Answer.the-variants.{Taken, Refused, Judged}
@@ -43,7 +43,7 @@ module _ (how : Sent) (b b′ line : List ℕ) (x : Answer) (t : SubmittedAs how
   }
 
   alone-singly : AsAlone how line → Submitted b line x b′
-  unfolding answerIn loneAfter leftAsFound
+  unfolding answerIn loneAfter leftAsFound stepSent step
   alone-singly y = record {
     answered = t .answered ∙ ap (λ z. cond (sound b) (z .answer) (Refused 1)) (y .steps (loneBook (depository line) b));
     kept = λ h. t .kept (ap (λ z. not (sound b) || z) (y .left (loneBook (depository line) b)) ∙ h);
@@ -56,7 +56,9 @@ module _ (how : Sent) (b b′ line : List ℕ) (x : Answer) (t : SubmittedAs how
   twelve-answered : sound b ≡ true → Twelve how line → isTwelve x ≡ true
   unfolding answerIn isTwelve
   twelve-answered s y =
-      ap isTwelve (t .answered ∙ ap (λ z. cond z _ (Refused 1)) s ∙ ap (λ z. z .answer) (y (loneBook (depository line) b)))
+      let m = loneBook (depository line) b in
+      let x12 = t .answered ∙ ap (λ z. cond z (stepSent how m line .answer) (Refused 1)) s ∙ ap (λ z. z .answer) (y m) in
+      ap isTwelve x12
 
   pub singly : isTwelve x ≡ false → Submitted b line x b′
   singly n =
@@ -73,6 +75,9 @@ twelve-untaken x e f = false≢true (ap isTwelve (sym f) ∙ e)
 
 -- ---- all lines
 
+steps-at : {b n b′ : List ℕ} {ls : List (Sent × List ℕ)} {xs : List Answer} → n ≡ b → Steps n ls xs b′ → Steps b ls xs b′
+steps-at {b′ = b′} {ls = ls} {xs = xs} e t = subst (λ z. Steps z ls xs b′) e t
+
 pub as-singly : AsSingly
 unfolding linesTaken keep
 as-singly b csd [] as′ b′ stop = stop
@@ -80,7 +85,7 @@ as-singly b csd (line ∷ lines) as′ b′ (next {between = n} {answer = x} t r
     cases (isTwelve x)
     (λ e.
     let left : n ≡ b = untaken-kept (InBatch csd) b n line x t (twelve-untaken x e) in
-    rw e (subst (λ z. Steps z _ _ b′) left (as-singly n csd lines _ b′ r)))
+    rw e (steps-at left (as-singly n csd lines _ b′ r)))
     (λ e. rw e (next (singly (InBatch csd) b n line x t e) (as-singly n csd lines _ b′ r)))
 
 -- ---- refused 11

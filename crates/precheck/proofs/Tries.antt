@@ -13,7 +13,7 @@ use Rattle.tables.proofs.Counts.{cases}
 use Rattle.meaning.specs.Text.{same}
 use Rattle.meaning.specs.Records as M
 use Rattle.meaning.specs.SameBook.{SameBook}
-use Rattle.meaning.specs.Lone.{told, afterSent, step, after, names, counts, elsewhere}
+use Rattle.meaning.specs.Lone.{told, afterSent, stepSent, step, after, names, counts}
 use Rattle.meaning.specs.Printing.{printed}
 use Rattle.meaning.specs.declared.Answer.{Answer}
 use Rattle.meaning.specs.declared.Answer.the-variants.{Taken}
@@ -71,11 +71,13 @@ module _ (lines : List (List ℕ)) (b : List ℕ) (l : LeftBy lines b) where
     module _ (line b′ : List ℕ) (x : Answer) (t : Submitted b line x b′) where
       -- the answer to a line that names the depository, and its records after it, are the lone book's
       answer-held : names a line ≡ true → x ≡ step m line .answer
+      unfolding stepSent step
       answer-held e =
           t .answered ∙ shared-answer a low high Alone b b′ line (names-depository a line low high e) held-sound
           ∙ step-same (loneBook a b) m held line .answer
 
       book-held : names a line ≡ true → SameBook (loneBook a b′) (step m line .book)
+      unfolding stepSent step
       book-held e =
           same-then (loneBook a b′) (step (loneBook a b) line .book) (step m line .book)
           (named-after a low high Alone b b′ line e (t .records held-sound a low high))
@@ -83,6 +85,7 @@ module _ (lines : List (List ℕ)) (b : List ℕ) (l : LeftBy lines b) where
 
       -- any other line leaves its records
       other-held : names a line ≡ false → SameBook (loneBook a b′) m
+      unfolding counts names
       other-held e =
           same-then (loneBook a b′) (loneBook a b) m
           (other-after a low high Alone b b′ line e (t .records held-sound a low high)) held
