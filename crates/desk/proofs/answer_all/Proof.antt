@@ -31,10 +31,19 @@ answer-all-spec =
     (λ c. search needs)
     (λ c. search needs)
     (λ c. search needs)
-    (λ c. search going-end)
+    (λ c e.
+    let answered = c .before .before .before .before .before .before .before .before .before .before in
+    let came = answered .before .before .before .before .before .before .before .before in
+    let at = came .before .before .before in
+    going-end (at .loop .inv) (came .read-behind .ensures) (c .if3 .taken) (answered .answer-read .ensures))
     (λ c. search needs)
     (λ c. search needs)
-    (λ c. search (going-on, c .before .if3 .left))
+    (λ c.
+    let answered = c .before .before .before .before .before .before .before .before .before .before .before in
+    let came = answered .before .before .before .before .before .before .before .before in
+    let at = came .before .before .before in
+    going-on (at .loop .inv) (came .read-behind .ensures) (c .before .if3 .left) (answered .answer-read .ensures) (search needs)
+    (search needs) (search needs) (search needs))
     (λ c. search needs)
     (λ c. search needs)
     (λ c. search needs)
