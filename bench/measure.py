@@ -1,5 +1,5 @@
 #!/usr/bin/env python3
-"""measure.py times|instructions WORK: what bench/run prints. WORK is a folder for temporary files.
+"""measure.py times|batches|instructions WORK: what bench/run prints. WORK is a folder for temporary files.
 
 The cost of a line is the cost of a book and N lines, less the cost of the book alone, divided by N.
 """
@@ -13,7 +13,9 @@ import book
 RUNS = 5            # runs of each kind; the quickest counts
 SUBMIT_ROOM = 600000  # precheck_main reads no more
 BLOCK = 20000       # lines made; more are had by repeating them
-SUBMIT, STEP, FLAT, MAPS = "submit", "step", "flat", "maps"
+BATCH_LINES = 64
+ANSWER_BYTES = 32   # of a line's answer in a batch's answer space
+SUBMIT, STEP, FLAT, MAPS, BATCH = "submit", "step", "flat", "maps", "batch"
 COUNTED = {SUBMIT: 200, STEP: 3200}  # lines whose instructions are counted
 PROGRAMS = {
     SUBMIT: ["target/bin/precheck_main"],
@@ -21,11 +23,13 @@ PROGRAMS = {
     FLAT: ["target/bench/conventional", "flat"],
     MAPS: ["target/bench/conventional", "maps"],
 }
+COMMANDS = {**PROGRAMS, BATCH: ["target/bin/calls"]}
 NAMES = {
     SUBMIT: "ours, submit (precheck_main)",
     STEP: "ours, many lines (desk)",
     FLAT: "conventional, flat",
     MAPS: "conventional, maps",
+    BATCH: "ours, batches of 64 (calls)",
 }
 # Valgrind counts a repeated string instruction once for each byte. So the C library is told not to use any.
 PLAIN_COPIES = {"GLIBC_TUNABLES": "glibc.cpu.x86_rep_movsb_threshold=1000000000:glibc.cpu.x86_rep_stosb_threshold=1000000000"}
@@ -49,11 +53,11 @@ def run(program, text, work, keep=False):
     with open(source, "wb") as file:
         file.write(text)
     with open(source, "rb") as stdin, open(answers if keep else os.devnull, "wb") as stdout:
-        child = subprocess.Popen(PROGRAMS[program], stdin=stdin, stdout=stdout)
+        child = subprocess.Popen(COMMANDS[program], stdin=stdin, stdout=stdout)
         _, status, usage = os.wait4(child.pid, 0)
     child.returncode = os.waitstatus_to_exitcode(status)
     if child.returncode:
-        sys.exit(f"{' '.join(PROGRAMS[program])} failed with status {child.returncode}")
+        sys.exit(f"{' '.join(COMMANDS[program])} failed with status {child.returncode}")
     seen = None
     if keep:
         with open(answers, "rb") as file:
@@ -135,6 +139,44 @@ def times(work):
                       f" {1 / cost if cost > 0 else 0:>15,.0f} {ratio:>12}", flush=True)
 
 
+def in_batches(lines):
+    """The lines in lists of 64 that name one depository."""
+    each = {}
+    for line in lines:
+        each.setdefault(line.split(",")[1], []).append(line)
+    return [(csd, own[k:k + BATCH_LINES]) for csd, own in each.items() for k in range(0, len(own) - BATCH_LINES + 1, BATCH_LINES)]
+
+
+def calls_of(singly, batches):
+    """Lines sent singly and then batches, as calls (vectors/CALLS.md)."""
+    sent = [f"b {csd} {BATCH_LINES * ANSWER_BYTES} " + "%0A".join(lines) for csd, lines in batches]
+    return text_of(["e"] + [f"l {line}" for line in singly] + sent)
+
+
+def batches(work):
+    """A batch of 64 questions on the full book beside the same lines through the step over many lines."""
+    base, sent = book.book_lines("full"), in_batches(book.questions("full", BLOCK))
+    lines = [line for _, own in sent for line in own]
+    texts = {STEP: (text_of(base), text_of(base + lines)), BATCH: (calls_of(base, []), calls_of(base, sent))}
+    best, answers = {}, {}
+    for turn in range(RUNS):
+        for program, (alone, whole) in texts.items():
+            took = []
+            for text in (alone, whole):
+                seconds, answers[program] = run(program, text, work, keep=True)
+                took.append(seconds)
+            best[program] = [min(pair) for pair in zip(took, best.get(program, took))]
+    spaces = [answer.partition(b" ")[2] for answer in answers[BATCH][-len(sent):]]
+    shown = [space[k:k + ANSWER_BYTES].rstrip(b".") for space in spaces for k in range(0, len(space), ANSWER_BYTES)]
+    if shown != answers[STEP][-len(lines):]:
+        sys.exit("the batches are answered otherwise")
+    cost = {program: (whole - alone) / len(lines) for program, (alone, whole) in best.items()}
+    print(f"{'book':<13}{'lines':<11}{'program':<30}{'N':>7} {'us a line':>10} {'batches / many lines':>21}", flush=True)
+    for program in (STEP, BATCH):
+        ratio = f"{cost[BATCH] / cost[STEP]:.2f}" if program == BATCH else ""
+        print(f"{BOOKS['full']:<13}{'questions':<11}{NAMES[program]:<30}{len(lines):>7} {cost[program] * 1e6:>10.2f} {ratio:>21}", flush=True)
+
+
 def instructions_of(command, text, work):
     """Instructions of one run."""
     out = os.path.join(work, "callgrind.out")
@@ -166,6 +208,7 @@ def instructions(work):
 
 
 if __name__ == "__main__":
-    if len(sys.argv) != 3 or sys.argv[1] not in ("times", "instructions"):
+    tables = {"times": times, "batches": batches, "instructions": instructions}
+    if len(sys.argv) != 3 or sys.argv[1] not in tables:
         sys.exit(__doc__)
-    (times if sys.argv[1] == "times" else instructions)(sys.argv[2])
+    tables[sys.argv[1]](sys.argv[2])

@@ -6,6 +6,9 @@
 
 All examples of a page are one text, answered over one emptied book. {1..16} in a line stands for sixteen lines, which
 must be answered alike. tools/desk_vectors.py gives the same text to the gate's run of the desk.
+
+A row that begins with a number is a line of the page's batch of depository 2, sent to an emptied book;
+tools/calls_vectors.py gives that batch to the gate's run of `calls`.
 """
 import os
 import re
@@ -13,6 +16,8 @@ import subprocess
 import sys
 
 ROW = re.compile(r"^\| `([^`]*)` \| `([^`]*)` \|", re.M)
+BATCH_ROW = re.compile(r"^\| (\d+) \| `([^`]*)` \| `([^`]*)` \|", re.M)
+BATCH_CSD = 2
 RANGE = re.compile(r"\{(\d+)\.\.(\d+)\}")
 
 
@@ -36,13 +41,27 @@ def pairs(path):
     return [(line, answer) for lines, answer in examples(path) for line in lines]
 
 
+def batch(path):
+    """each line of the page's batch with its answer"""
+    with open(path) as f:
+        rows = BATCH_ROW.findall(f.read())
+    assert [int(number) for number, _, _ in rows] == list(range(len(rows))), f"{path}: the batch's lines are numbered from 0"
+    return [(line, answer) for _, line, answer in rows]
+
+
+def desk(words, text):
+    """the desk's answers to a text"""
+    run = subprocess.run(["target/bin/desk"] + words, input=text, capture_output=True, text=True)
+    return run.stdout.split("\n")
+
+
 def main(words):
     if words not in ([], ["--check"]):
         sys.exit(__doc__)
     os.chdir(os.path.dirname(os.path.dirname(os.path.realpath(__file__))))
     path = "docs/LINES.md"
     text = "".join(f"{line}\n" for line, _ in pairs(path))
-    given = iter(subprocess.run(["target/bin/desk"], input=text, capture_output=True, text=True).stdout.split("\n"))
+    given = iter(desk([], text))
     right = []
     for lines, answer in examples(path):
         answers = {next(given) for _ in lines}
@@ -54,8 +73,10 @@ def main(words):
     page = open(path).read()
     rest = iter(right)
     new = ROW.sub(lambda m: f"| `{m.group(1)}` | `{next(rest)}` |", page)
+    together = iter(desk(["batch", str(BATCH_CSD), "-"], "".join(f"{line}\n" for line, _ in batch(path))))
+    new = BATCH_ROW.sub(lambda m: f"| {m.group(1)} | `{m.group(2)}` | `{next(together)}` |", new)
     if words:
-        sys.exit(new != page)
+        sys.exit("the examples are not as the desk answers them" if new != page else 0)
     with open(path, "w") as f:
         f.write(new)
 

@@ -1,7 +1,9 @@
 // The desk program (document 01, 'The desk program'). Without an argument it answers standard input; with files, each
-// in turn over a book emptied for it, where '-' is standard input; with 'keler CSD DAY FIRST LAST' it prints the KELER
-// set. What it decides stands in proved functions on slices. The first failure of reading or writing is named on
-// standard error and ends the work.
+// in turn over a book emptied for it, where '-' is standard input; with 'batch CSD FILE' it sends a file as one batch;
+// with 'keler CSD DAY FIRST LAST' it prints the KELER set. What it decides stands in proved functions on slices. The
+// first failure of reading or writing is named on standard error and ends the work.
+mod batch;
+
 use libc::STDERR_FILENO;
 use libc::STDIN_FILENO;
 use libc::STDOUT_FILENO;
@@ -304,7 +306,9 @@ fn print_set() -> u8 {
 // ---- The arguments.
 
 fn usage() -> u8 {
-    wrong(b"usage: desk [FILE..]\n       desk keler CSD DAY FIRST LAST\n")
+    wrong(
+        b"usage: desk [FILE..]\n       desk batch CSD FILE\n       desk keler CSD DAY FIRST LAST\n",
+    )
 }
 
 // Answers the lines of the file that an argument names.
@@ -327,21 +331,35 @@ fn answer_arguments(count: usize) -> u8 {
     DONE
 }
 
-// Whether the first argument is the word 'keler'.
-fn is_keler() -> bool {
+// Whether the first argument is a word of five letters.
+fn is_first(name: &[u8]) -> bool {
     let mut word = [0u8; 6];
     let n = os::arg(1, &mut word);
-    line::same(&word[..n], b"keler")
+    line::same(&word[..n], name)
 }
 
-fn with_arguments(count: usize) -> u8 {
-    if !is_keler() {
-        return answer_arguments(count);
-    }
+fn keler_arguments(count: usize) -> u8 {
     if count == 6 {
         return print_set();
     }
     usage()
+}
+
+fn batch_arguments(count: usize) -> u8 {
+    if count == 4 {
+        return batch::answer_batch();
+    }
+    usage()
+}
+
+fn with_arguments(count: usize) -> u8 {
+    if is_first(b"keler") {
+        return keler_arguments(count);
+    }
+    if is_first(b"batch") {
+        return batch_arguments(count);
+    }
+    answer_arguments(count)
 }
 
 fn work() -> u8 {

@@ -1,0 +1,22 @@
+-- `calls::answer_end` meets its contract. Assumes nothing.
+use mathlib.Core.Path.{sym}
+use native.Mathlib.Omega.{arith}
+use lib.Seq.{length-take-le}
+use borrow.Author.Needs.{needs}
+use Rattle.calls.proofs.answer_end.Statement.{statement}
+use Rattle.calls.proofs.answer_end.Tie as tie
+
+pub answer-end-spec : {M : Type 1} → statement M
+answer-end-spec =
+    tie.close
+    (tie.spec
+    (λ c. search needs)
+    (λ c κs. search needs)
+    (λ c. search needs)
+    (λ c. sym (length-take-le _ _ (omega arith)))
+    (λ c κs. search needs)
+    (λ c. search needs)
+    (λ c. search needs)
+    (λ c. search needs)
+    (λ c. search needs)
+    (λ c. search needs))
