@@ -28,7 +28,10 @@ fn text_space() -> [u8; TEXT] {
 }
 
 fn too_large() -> u8 {
-    io::write_all(STDERR_FILENO, b"precheck: batch: the file has more than 1048575 bytes\n");
+    io::write_all(
+        STDERR_FILENO,
+        b"precheck: batch: the file has more than 1048575 bytes\n",
+    );
     FAILED
 }
 
