@@ -1,9 +1,9 @@
 -- What a batch does to a book and to its answer space. Assumes nothing.
-use Prim.Native.Nat.{ℕ, _+_, _*_, _≤_}
+use Prim.Native.Nat.{ℕ, _+_, _*_, _≤_, _<_}
 use mathlib.Core.Path.{_≡_}
 use mathlib.Core.Bool.{Bool}
 use mathlib.Core.List.{List}
-use lib.ListN.{length}
+use lib.ListN.{length, getD, take, drop}
 use Rattle.meaning.specs.Desk.{linesOf}
 use Rattle.meaning.specs.Printing.{printed}
 use Rattle.meaning.specs.declared.Answer.{Answer}
@@ -33,11 +33,15 @@ pub record TakenBy (how : Sent) (t : Bool) (before text out after out′ : List 
   pub answers : out′ ≡ spaceAfter (answersBy how t before (linesOf text)) out
   pub sized : length (spaced (answersBy how t before (linesOf text))) ≡ width * length (linesOf text)
 
+-- answer i, from 0, as printed without byte 10, stands at byte 32 × i, zeros filling its 32 bytes; later space is
+-- untouched
+pub record Placed (answers : List Answer) (before after : List ℕ) : Type 0 where
+  pub stands : (d : Answer) (i : ℕ) → i < length answers → take width (drop (width * i) after) ≡ filled (printed (getD answers i d))
+  pub later : drop (width * length answers) after ≡ drop (width * length answers) before
+
 -- a batch: the lines that it stands as, over any book
 pub record Taken (before : List ℕ) (csd : ℕ) (text out : List ℕ) (r : Batch) (after out′ : List ℕ) : Type 0 where
   pub result : r ≡ batchResult text (length out)
   pub book : after ≡ bookBy (InBatch csd) (sound before) before (batchLines text (length out))
   pub answers : out′ ≡ spaceAfter (answersBy (InBatch csd) (sound before) before (batchLines text (length out))) out
-  -- each answer has its 32 bytes
-  pub sized :
-      length (spaced (answersBy (InBatch csd) (sound before) before (batchLines text (length out)))) ≡ width * length (batchLines text (length out))
+  pub placed : Placed (answersBy (InBatch csd) (sound before) before (batchLines text (length out))) out out′
