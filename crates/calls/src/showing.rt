@@ -1,5 +1,5 @@
 // Writes answers as vectors/CALLS.md says.
-use batches::Batch;
+use meaning::Batch;
 use libc::STDOUT_FILENO;
 use meaning::Answer;
 ghost use Prim.Native.Nat.{_≤_};

@@ -9,7 +9,7 @@ use crate::write_line;
 use crate::wrong;
 use basics::byte_within;
 use basics::wide;
-use batches::Batch;
+use meaning::Batch;
 use batches::MOST;
 use batches::WIDTH;
 use batches::submit_batch;
