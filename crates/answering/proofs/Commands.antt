@@ -1,7 +1,7 @@
 -- What each return of `take` shows: what a command does to a book.
 use Prim.Native.Nat.{ℕ, zero, suc}
 use mathlib.Core.Path.{_≡_, refl, ap, sym, _∙_}
-use mathlib.Core.Bool.{Bool, true, false}
+use mathlib.Core.Bool.{Bool, true, false, not}
 use mathlib.Core.List.{List}
 use mathlib.Core.Option.{Option, some, none}
 use lib.Dec.{eqb}
@@ -10,11 +10,14 @@ use Rattle.tables.proofs.Counts.{cases-eq}
 use Rattle.meaning.specs.Records as M
 use Rattle.meaning.specs.Records.{questionIn}
 use Rattle.meaning.specs.Refusals.{refusal}
+use Rattle.meaning.specs.Edits.{edited}
 use Rattle.meaning.specs.Judging.{judged}
-use Rattle.meaning.specs.Lone.{replied, reply, unless, taken, isSome}
+use Rattle.meaning.specs.Lone.{elsewhere, replied, reply, unless, taken, isSome}
 use Rattle.meaning.specs.Sound.{soundLone}
 use Rattle.meaning.specs.declared.Answer.{Answer}
 use Rattle.meaning.specs.declared.Answer.the-variants.{Taken, Refused, Judged}
+use Rattle.meaning.specs.declared.Sent.{Sent}
+use Rattle.meaning.specs.declared.Sent.the-variants.{Alone, InBatch}
 use Rattle.meaning.specs.declared.Verdict.{Verdict}
 use Rattle.commands.specs.Asked.{asked, questionAsked, questionOf}
 use Rattle.commands.specs.declared.Question.{Question}
@@ -33,6 +36,15 @@ use Rattle.judge.specs.Stages.{judgedBy}
 use Rattle.judge.proofs.VerdictRight.{judged-right}
 use Rattle.answering.specs.Taking.{refusalOf, repliedTo, replyTo, answerOf, bytesAfter, Ready, Meant, Took}
 
+-- the code's test for a line of another depository than its batch
+pub elsewhere-alone : (s : Sent) (r : Bool) (csd : ℕ) → s ≡ Alone → r ≡ false → r ≡ elsewhere s csd
+unfolding elsewhere
+elsewhere-alone s r csd e f = rw e f
+
+pub elsewhere-batch : (s : Sent) (r : Bool) (csd c : ℕ) → s ≡ InBatch c → r ≡ not (eqb csd c) → r ≡ elsewhere s csd
+unfolding elsewhere
+elsewhere-batch s r csd c e f = rw e f
+
 -- the code's test for a question
 pub question-of : (x : What) (q : Question) → x ≡ What.Ask q → questionAsked x ≡ some q
 question-of x q e = ap questionAsked e
@@ -42,6 +54,10 @@ unless-refused : (n : ℕ) (m : M.Book) (k : M.Command) → (n ≡ 0 → ⊥)
 unfolding unless
 unless-refused zero m k h = absurd (h refl)
 unless-refused (suc n) m k h = refl
+
+taken-by : (m : M.Book) (k : M.Command) → taken m k ≡ unless (refusal m k) m k
+unfolding taken refusal
+taken-by m k = refl
 
 -- the book as it was
 unchanged : (b : List ℕ) (c : ℕ) → Leaves b b c (loneBook c b)
@@ -55,11 +71,11 @@ module _ (b : List ℕ) (c : Command) where
   k = asked c
 
   pub took-refusal : (n : ℕ) (x : Answer) → (n ≡ 0 → ⊥) → x ≡ Refused n → n ≡ refusal m k → Took b c x b
-  unfolding answerOf bytesAfter refusalOf taken
+  unfolding answerOf bytesAfter refusalOf
   took-refusal n x f g h =
       let r : eqb (refusal m k) 0 ≡ false = ap (λ j. eqb j 0) (sym h) ∙ ne-eqb n 0 f in
       let u : taken m k ≡ record { answer = Refused n; book = m } =
-      ap (λ j. unless j m k) (sym h) ∙ unless-refused n m k f in
+      taken-by m k ∙ ap (λ j. unless j m k) (sym h) ∙ unless-refused n m k f in
       record {
         answered = rw r (g ∙ ap Refused h);
         bytes = rw r;
@@ -82,16 +98,18 @@ module _ (b : List ℕ) (c : Command) where
 
     took : (b′ : List ℕ) (x : Answer) → x ≡ replyTo b (c .what) → b′ ≡ editIn b (c .csd) k → (Ready b c → x ≡ reply m k)
         → (Ready b c → Edited b (c .csd) k b′) → Took b c x b′
-    unfolding answerOf bytesAfter refusalOf taken unless
+    unfolding answerOf bytesAfter refusalOf unless
     took b′ x h g replies leaves =
         let r : eqb (refusal m k) 0 ≡ true = eq-eqb _ 0 unrefused in
+        let u : taken m k ≡ record { answer = reply m k; book = edited m k } =
+        taken-by m k ∙ ap (λ j. unless j m k) unrefused in
         record {
           answered = rw r h;
           bytes = rw r g;
           meant = λ y.
               record {
-                answered = rw unrefused (replies y);
-                left = rw unrefused (leaves y .left);
+                answered = replies y ∙ ap (λ z. z .answer) (sym u);
+                left = rw u (leaves y .left);
                 stays = leaves y .stays;
               };
         }

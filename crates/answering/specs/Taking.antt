@@ -8,9 +8,10 @@ use lib.Dec.{eqb}
 use Rattle.meaning.specs.Reading.{numbersRead}
 use Rattle.meaning.specs.Refusals.{wrong, refusal}
 use Rattle.meaning.specs.Edits as meant
-use Rattle.meaning.specs.Lone.{taken}
+use Rattle.meaning.specs.Lone.{elsewhere, taken}
 use Rattle.meaning.specs.declared.Answer.{Answer}
 use Rattle.meaning.specs.declared.Answer.the-variants.{Taken, Refused, Judged}
+use Rattle.meaning.specs.declared.Sent.{Sent}
 use Rattle.commands.specs.Asked.{asked, questionAsked, letterFor, commandFrom}
 use Rattle.commands.specs.declared.Question.{Question}
 use Rattle.commands.specs.declared.What.{What}
@@ -22,7 +23,7 @@ use Rattle.edits.specs.Leaves.{Leaves}
 use Rattle.judge.specs.Stages.{judgedBy}
 use Rattle.line.specs.Line.{lineOf}
 use Rattle.line.specs.declared.reading.Line.{Line}
-use Rattle.answering.specs.Promise.{Submitted}
+use Rattle.answering.specs.Promise.{SubmittedAs}
 
 -- ---- a command
 
@@ -73,24 +74,31 @@ pub record Took (before : List ℕ) (c : Command) (answer : Answer) (after : Lis
 abbrev pub commandIn : Line → Command
 commandIn l = commandFrom (letterFor (l .letter)) (l .values)
 
--- refusals 2 to 5, the last of which may lie in the whole command; or what is answered to it
-unfoldable pub answerRead : List ℕ → Line → Answer
-answerRead b l =
-    cond (eqb (l .refusal) 0) (cond (wrong (asked (commandIn l))) (Refused 5) (answerOf b (commandIn l)))
+-- whether the depository that it names is another than its batch's
+abbrev pub isElsewhere : Sent → Line → Bool
+isElsewhere how l = elsewhere how (commandIn l .csd)
+
+-- refusals 2 to 5, the last of which may lie in the whole command; then 12; or what is answered to it
+unfoldable pub answerRead : Sent → List ℕ → Line → Answer
+answerRead how b l =
+    cond (eqb (l .refusal) 0)
+    (cond (wrong (asked (commandIn l))) (Refused 5) (cond (isElsewhere how l) (Refused 12) (answerOf b (commandIn l))))
     (Refused (l .refusal))
 
-unfoldable pub bytesRead : List ℕ → Line → List ℕ
-bytesRead b l = cond (eqb (l .refusal) 0) (cond (wrong (asked (commandIn l))) b (bytesAfter b (commandIn l))) b
+unfoldable pub bytesRead : Sent → List ℕ → Line → List ℕ
+bytesRead how b l =
+    cond (eqb (l .refusal) 0)
+    (cond (wrong (asked (commandIn l))) b (cond (isElsewhere how l) b (bytesAfter b (commandIn l)))) b
 
 -- over a book that is sound, or is not
-unfoldable pub answerBy : Bool → List ℕ → List ℕ → Answer
-answerBy s b line = cond s (answerRead b (lineOf (numbersRead line))) (Refused 1)
+unfoldable pub answerBy : Sent → Bool → List ℕ → List ℕ → Answer
+answerBy how s b line = cond s (answerRead how b (lineOf (numbersRead line))) (Refused 1)
 
-unfoldable pub bytesBy : Bool → List ℕ → List ℕ → List ℕ
-bytesBy s b line = cond s (bytesRead b (lineOf (numbersRead line))) b
+unfoldable pub bytesBy : Sent → Bool → List ℕ → List ℕ → List ℕ
+bytesBy how s b line = cond s (bytesRead how b (lineOf (numbersRead line))) b
 
-pub record Answers (s : Bool) (before line : List ℕ) (answer : Answer) (after : List ℕ) : Type 0 where
-  pub answered : answer ≡ answerBy s before line
-  pub bytes : after ≡ bytesBy s before line
-  -- where the book is as it was said to be, this is what `submit` promises
-  pub promise : s ≡ sound before → Submitted before line answer after
+pub record Answers (how : Sent) (s : Bool) (before line : List ℕ) (answer : Answer) (after : List ℕ) : Type 0 where
+  pub answered : answer ≡ answerBy how s before line
+  pub bytes : after ≡ bytesBy how s before line
+  -- where the book is as it was said to be, this is what `submit` promises of a line sent so
+  pub promise : s ≡ sound before → SubmittedAs how before line answer after

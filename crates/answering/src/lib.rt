@@ -1,6 +1,7 @@
 // What is answered to a line over a book of which it is known whether it is sound. `precheck::submit` finds that out
 // for each line, `lines` once for many.
 ghost use mathlib.Core.Path.{_≡_};
+ghost use Rattle.meaning.specs.Lone.{elsewhere};
 ghost use Rattle.answering.specs.Taking.{Took, Answers};
 use commands::Command;
 use commands::What;
@@ -10,6 +11,7 @@ use edits::edit;
 use judge::judge;
 use line::read_line;
 use meaning::Answer;
+use meaning::Sent;
 use refusals::refusal;
 
 // What a command does to a book: the first refusal that holds is the answer, and the book stays; else a question gets
@@ -29,9 +31,20 @@ fn take(book: &mut [u8], c: Command) -> Answer
     Answer::Taken
 }
 
-// The answer to a line over a lent book that was found to be sound, or not to be; an accepted edit is stored in it.
-pub fn answer(book: &mut [u8], line: &[u8], sound: bool) -> Answer
-    ensures { λ r. ⌜ Answers sound (now (book .entry)) (now (line .entry)) r (now (book .exit)) ⌝ }
+// Whether a line of a depository, sent so, names another depository than its batch.
+fn is_elsewhere(sent: Sent, csd: u8) -> bool
+    ensures { λ r. ⌜ r ≡ elsewhere sent csd ⌝ }
+{
+    match sent {
+        Sent::Alone => false,
+        Sent::InBatch(c) => csd != c,
+    }
+}
+
+// The answer to a line, sent alone or in a batch, over a lent book that was found to be sound, or not to be; an accepted
+// edit is stored in it.
+pub fn answer(book: &mut [u8], line: &[u8], sound: bool, sent: Sent) -> Answer
+    ensures { λ r. ⌜ Answers sent sound (now (book .entry)) (now (line .entry)) r (now (book .exit)) ⌝ }
 {
     if !sound {
         return Answer::Refused(1);
@@ -44,6 +57,9 @@ pub fn answer(book: &mut [u8], line: &[u8], sound: bool) -> Answer
     let c = command_of(l.letter, values);
     if is_wrong(c) {
         return Answer::Refused(5);
+    }
+    if is_elsewhere(sent, c.csd) {
+        return Answer::Refused(12);
     }
     take(book, c)
 }

@@ -9,6 +9,7 @@ use lib.ListN.{length, take, replicate, length-replicate, length-append, length-
 use lib.Seq.{take-all}
 use borrow.Author.Tests.{le-leb}
 use Rattle.meaning.specs.Desk.{output}
+use Rattle.meaning.specs.declared.Sent.the-variants.{Alone}
 use Rattle.lines.specs.Ended.{ended, begun, lastLine, short}
 use Rattle.lines.specs.Many.{answersBy, bookBy, laid}
 use Rattle.lines.specs.Pieces.{Steps, End}
@@ -23,12 +24,12 @@ module _ (stands : List ℕ) (lines : List (List ℕ)) (kept : List ℕ) (d : De
   space = replicate (33 * length stands) 0
 
   abbrev answers : List ℕ
-  answers = output (answersBy (d .sound) b lines)
+  answers = output (answersBy Alone (d .sound) b lines)
 
   abbrev result : Step
   result = record { desk = record { held = length kept; sound = d .sound }; written = length answers; room = true }
 
-  step : Steps stands lines kept d b t space result (bookBy (d .sound) b lines) (laid t 0 kept) (laid space 0 answers)
+  step : Steps stands lines kept d b t space result (bookBy Alone (d .sound) b lines) (laid t 0 kept) (laid space 0 answers)
   step = record {
     room = sym (le-leb (33 * length stands) (length space) (omega (arith, length-replicate {A = ℕ} (33 * length stands) 0)));
     takes = λ w. record { book = refl; out = refl; written = refl; text = refl; desk = refl };
@@ -44,7 +45,7 @@ read-all d t piece =
 pub every-text : EveryText
 every-text d b t [] =
     let stands = take (d .held) t in
-    let s : End d b t (space stands (lastLine stands) [] d b t) (result stands (lastLine stands) [] d b t) (bookBy (d .sound) b (lastLine stands)) (laid (space stands (lastLine stands) [] d b t) 0 (answers stands (lastLine stands) [] d b t)) =
+    let s : End d b t (space stands (lastLine stands) [] d b t) (result stands (lastLine stands) [] d b t) (bookBy Alone (d .sound) b (lastLine stands)) (laid (space stands (lastLine stands) [] d b t) 0 (answers stands (lastLine stands) [] d b t)) =
     rw (← laid-none t 0) at (step stands (lastLine stands) [] d b t) in
     record { written = _; after = _; fed = last (ap (λ k. take k t) (add-zero (d .held)) ∙ sym (append-nil (take (d .held) t))) s refl }
 every-text d b t (piece ∷ pieces) =
@@ -52,5 +53,5 @@ every-text d b t (piece ∷ pieces) =
     let stands = take (d .held + length piece) t₁ in
     let ls = ended stands in
     let kept = short (begun stands) in
-    let i = every-text (result stands ls kept d b t₁ .desk) (bookBy (d .sound) b ls) (laid t₁ 0 kept) pieces in
+    let i = every-text (result stands ls kept d b t₁ .desk) (bookBy Alone (d .sound) b ls) (laid t₁ 0 kept) pieces in
     record { written = _; after = i .after; fed = more (read-all d t piece) (step stands ls kept d b t₁) refl (i .fed) }

@@ -12,6 +12,7 @@ use Rattle.tables.proofs.Counts.{cases}
 use Rattle.meaning.specs.Desk.{output}
 use Rattle.book.specs.Sound.{sound}
 use Rattle.answering.specs.Taking.{answerBy}
+use Rattle.meaning.specs.declared.Sent.the-variants.{Alone}
 use Rattle.lines.specs.Ended.{ended, begun, lastLine, short}
 use Rattle.lines.specs.Keeping.{part, Keeps}
 use Rattle.lines.specs.Many.{answersBy, bookBy, bytesIn, laid, writtenAs, one, standing, Turn, AnsweredBy}
@@ -81,9 +82,9 @@ part-behind [] (suc from) (suc n) = take-all (suc n - suc from) [] (omega arith)
 part-behind (x ∷ text) (suc from) (suc n) = let e : suc n - suc from ≡ n - from = omega arith in rw e (part-behind text from n)
 
 record All (s : Bool) (b t o b′ o′ : List ℕ) (p : Progress) : Type 0 where
-  pub book : b′ ≡ bookBy s b (ended t)
-  pub out : o′ ≡ laid o 0 (output (answersBy s b (ended t)))
-  pub written : p .written ≡ length (output (answersBy s b (ended t)))
+  pub book : b′ ≡ bookBy Alone s b (ended t)
+  pub out : o′ ≡ laid o 0 (output (answersBy Alone s b (ended t)))
+  pub written : p .written ≡ length (output (answersBy Alone s b (ended t)))
   pub read : p .read ≡ bytesIn (ended t)
 
 module _ {s : Bool} {b t o b′ o′ : List ℕ} {p : Progress} where
@@ -93,9 +94,9 @@ module _ {s : Bool} {b t o b′ o′ : List ℕ} {p : Progress} where
       let r = none-left (c .rest) (c .done) t o′ (p .read) (p .written) (c .all) (omega (arith, c .read)) n h (c .stops) in
       let e : c .done ≡ ended t = sym (c .all ∙ ap (λ z. c .done ++ z) r ∙ append-nil (c .done)) in
       record {
-        book = c .book ∙ ap (bookBy s b) e;
-        out = c .out ∙ ap (λ ls. laid o 0 (output (answersBy s b ls))) e;
-        written = omega (arith, c .written) ∙ ap (λ ls. length (output (answersBy s b ls))) e;
+        book = c .book ∙ ap (bookBy Alone s b) e;
+        out = c .out ∙ ap (λ ls. laid o 0 (output (answersBy Alone s b ls))) e;
+        written = omega (arith, c .written) ∙ ap (λ ls. length (output (answersBy Alone s b ls))) e;
         read = omega (arith, c .read) ∙ ap bytesIn e;
       }
 
@@ -153,7 +154,7 @@ module _ {d : Desk} {b text o : List ℕ} (k : ℕ) {n : ℕ} {q : Bool} (m : n 
   last-line {b′} {o′} {r} g u =
       let t = take n text in
       let v = u .turned 0 in
-      let a = answerBy (d .sound) b t in
+      let a = answerBy Alone (d .sound) b t in
       let w : output (a ∷ []) ≡ writtenAs a = output-more a [] ∙ append-nil (writtenAs a) in
       rw (← same-bytes k text m, last-some t (λ z. g (stand-size k text m ∙ z)))
       (record {

@@ -11,37 +11,41 @@ use borrow.Author.Tests.{leb-false}
 use Rattle.tables.proofs.Counts.{cases}
 use Rattle.meaning.specs.Printing.{printed}
 use Rattle.meaning.specs.Desk.{output}
+use Rattle.meaning.specs.Lone.{told}
 use Rattle.meaning.specs.declared.Answer.{Answer}
+use Rattle.meaning.specs.declared.Sent.{Sent}
+use Rattle.meaning.specs.declared.Sent.the-variants.{Alone}
 use Rattle.book.specs.Sound.{sound}
-use Rattle.precheck.specs.Alone.{sent}
-use Rattle.precheck.specs.Promise.{Submitted}
+use Rattle.precheck.specs.Batch.{Steps, stop, next}
+use Rattle.precheck.specs.Promise.{SubmittedAs}
 use Rattle.answering.specs.Taking.{answerBy, bytesBy}
 use Rattle.answering.proofs.Submits.{keeps-promise}
 use Rattle.lines.specs.Ended.{ended}
 use Rattle.lines.specs.Many.{answersBy, bookBy, bytesIn, laid, writtenAs, Standing, room, one, many, standing, AnsweredBy, Answered}
-use Rattle.lines.specs.Sent.{Sent, SentLines}
+use Rattle.lines.specs.Sent.{SentLines}
 use Rattle.lines.specs.declared.Progress.{Progress}
 
 -- ---- submitted one by one
 
 -- a line answered over a book of which it is known whether it is sound: what `submit` promises, and it stays known
-module _ (s : Bool) (b l : List ℕ) (e : s ≡ sound b) where
-  promised : Submitted b l (answerBy s b l) (bytesBy s b l)
-  promised = rw e (keeps-promise b l)
+module _ (how : Sent) (s : Bool) (b l : List ℕ) (e : s ≡ sound b) where
+  promised : SubmittedAs how b l (answerBy how s b l) (bytesBy how s b l)
+  promised = rw e (keeps-promise how b l)
 
-  pub known : s ≡ sound (bytesBy s b l)
+  pub known : s ≡ sound (bytesBy how s b l)
   unfolding bytesBy
   known = cases s (λ t. t ∙ sym (promised .stays (sym e ∙ t))) (λ t. rw t (sym t ∙ e))
 
-pub submits : (s : Bool) (b : List ℕ) (ls : List (List ℕ)) → s ≡ sound b → Sent b ls (answersBy s b ls) (bookBy s b ls)
+pub submits : (how : Sent) (s : Bool) (b : List ℕ) (ls : List (List ℕ)) → s ≡ sound b
+    → Steps b (told how ls) (answersBy how s b ls) (bookBy how s b ls)
 unfolding answersBy bookBy
-submits s b [] e more others r = r
-submits s b (l ∷ ls) e more others r = sent (promised s b l e) (submits s (bytesBy s b l) ls (known s b l e) more others r)
+submits how s b [] e = stop
+submits how s b (l ∷ ls) e = next (promised how s b l e) (submits how s (bytesBy how s b l) ls (known how s b l e))
 
-pub stays-sound : (s : Bool) (b : List ℕ) (ls : List (List ℕ)) → s ≡ sound b → s ≡ sound (bookBy s b ls)
+pub stays-sound : (how : Sent) (s : Bool) (b : List ℕ) (ls : List (List ℕ)) → s ≡ sound b → s ≡ sound (bookBy how s b ls)
 unfolding bookBy
-stays-sound s b [] e = e
-stays-sound s b (l ∷ ls) e = stays-sound s (bytesBy s b l) ls (known s b l e)
+stays-sound how s b [] e = e
+stays-sound how s b (l ∷ ls) e = stays-sound how s (bytesBy how s b l) ls (known how s b l e)
 
 -- ---- answers laid one behind the other
 
@@ -85,10 +89,10 @@ pub record Came (t : Bool) (lines : List (List ℕ)) (s r : Standing) : Type 0 w
   pub done : List (List ℕ)
   pub rest : List (List ℕ)
   pub all : lines ≡ done ++ rest
-  pub book : r .book ≡ bookBy t (s .book) done
-  pub out : r .out ≡ laid (s .out) (s .written) (output (answersBy t (s .book) done))
+  pub book : r .book ≡ bookBy Alone t (s .book) done
+  pub out : r .out ≡ laid (s .out) (s .written) (output (answersBy Alone t (s .book) done))
   pub read : r .read ≡ s .read + bytesIn done
-  pub written : r .written ≡ s .written + length (output (answersBy t (s .book) done))
+  pub written : r .written ≡ s .written + length (output (answersBy Alone t (s .book) done))
   pub stops : (rest ≡ [] → ⊥) → room r ≡ false
 
 module _ (t : Bool) where
@@ -109,9 +113,9 @@ module _ (t : Bool) where
       → Came t (l ∷ ls) s r
   unfolding one bookBy answersBy bytesIn
   one-came l ls s r h c =
-      let a = answerBy t (s .book) l in
+      let a = answerBy Alone t (s .book) l in
       let x = writtenAs a in
-      let rest′ = answersBy t (bytesBy t (s .book) l) (c .done) in
+      let rest′ = answersBy Alone t (bytesBy Alone t (s .book) l) (c .done) in
       let e = output-more a rest′ in
       record {
         done = l ∷ c .done;
@@ -126,7 +130,7 @@ module _ (t : Bool) where
 
   one-size : (l : List ℕ) (s : Standing) → s .written ≤ length (s .out) → one t s l .written ≤ length (one t s l .out)
   unfolding one
-  one-size l s h = laid-size (s .out) (s .written) (writtenAs (answerBy t (s .book) l)) h
+  one-size l s h = laid-size (s .out) (s .written) (writtenAs (answerBy Alone t (s .book) l)) h
 
   pub steps : (ls : List (List ℕ)) (s : Standing) → s .written ≤ length (s .out) → Came t ls s (many t ls s)
   unfolding many
@@ -152,14 +156,14 @@ module _ {t : Bool} {b text o b′ o′ : List ℕ} {r : Progress} where
       record {
         lines = c .done;
         others = c .rest;
-        answers = answersBy t b (c .done);
+        answers = answersBy Alone t b (c .done);
         first = c .all;
         read = omega (arith, c .read);
-        sent = rw (c .book) (submits t b (c .done) e);
+        sent = rw (c .book) (submits Alone t b (c .done) e);
         out = c .out;
         written = omega (arith, c .written);
         stops = λ h. omega (arith, leb-false (r .written + 33) (length o′) (c .stops h));
-        stays = λ h. rw (c .book) (sym (stays-sound t b (c .done) e) ∙ e ∙ h);
+        stays = λ h. rw (c .book) (sym (stays-sound Alone t b (c .done) e) ∙ e ∙ h);
       }
 
   pub sent-lines : AnsweredBy t b text o r b′ o′ → t ≡ sound b → length o′ ≡ length o → SentLines b text o r b′ o′

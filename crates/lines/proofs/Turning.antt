@@ -11,6 +11,7 @@ use borrow.Author.Tests.{leb-true, lt-ltb}
 use Rattle.meaning.specs.Text.{place}
 use Rattle.meaning.specs.Printing.{printed}
 use Rattle.meaning.specs.declared.Answer.{Answer}
+use Rattle.meaning.specs.declared.Sent.the-variants.{Alone}
 use Rattle.text.specs.Parts.{spanFrom, Splits}
 use Rattle.text.specs.Printed.{Prints}
 use Rattle.text.specs.declared.lines.Span.{Span}
@@ -62,7 +63,7 @@ put o o′ at a p i e h z =
 -- ---- one line
 
 module _ (b b′ line o o′ : List ℕ) (s : Bool) (at r : ℕ) (x : Answer) where
-  pub turned : Answers s b line x b′ → Put o at x r o′ → Turn s b line o at r b′ o′
+  pub turned : Answers Alone s b line x b′ → Put o at x r o′ → Turn s b line o at r b′ o′
   unfolding one
   turned a p = record {
     turned = λ k. rw (← a .answered, ← a .bytes, ← p .whole, ← p .next);

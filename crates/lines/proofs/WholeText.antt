@@ -17,9 +17,10 @@ use Rattle.meaning.specs.Printing.{printed}
 use Rattle.meaning.specs.Desk.{linesOf, output}
 use Rattle.meaning.specs.declared.Answer.{Answer}
 use Rattle.book.specs.Sound.{sound}
-use Rattle.precheck.specs.Alone.{Run, done}
+use Rattle.precheck.specs.Alone.{Run, singles}
 use Rattle.answering.specs.Taking.{answerBy, bytesBy}
-use Rattle.precheck.proofs.Alone.{one-alone}
+use Rattle.precheck.proofs.Alone.{run-singles, one-alone-lines}
+use Rattle.meaning.specs.declared.Sent.the-variants.{Alone}
 use Rattle.lines.specs.Ended.{inFront, ended, begun, lastLine, short}
 use Rattle.lines.specs.Many.{answersBy, bookBy, answersOf, laid}
 use Rattle.lines.specs.Whole.{Fed, last, more, joined, Whole, DeskAlone}
@@ -136,32 +137,31 @@ numbers-cut l =
     rw (long l (omega arith), long (short l) (omega (arith, length-take-le 81 l (omega arith)))))
 
 module _ (s : Bool) where
-  answers-cut : (b : List ℕ) (ls : List (List ℕ)) → answersBy s b (cut ls) ≡ answersBy s b ls
+  answers-cut : (b : List ℕ) (ls : List (List ℕ)) → answersBy Alone s b (cut ls) ≡ answersBy Alone s b ls
   unfolding answersBy cut answerBy bytesBy
   answers-cut b [] = refl
-  answers-cut b (l ∷ ls) = rw (numbers-cut l, answers-cut (bytesBy s b l) ls)
+  answers-cut b (l ∷ ls) = rw (numbers-cut l, answers-cut (bytesBy Alone s b l) ls)
 
-  bytes-cut : (b l : List ℕ) → bytesBy s b (short l) ≡ bytesBy s b l
+  bytes-cut : (b l : List ℕ) → bytesBy Alone s b (short l) ≡ bytesBy Alone s b l
   unfolding bytesBy
   bytes-cut b l = rw (numbers-cut l)
 
-  book-cut : (b : List ℕ) (ls : List (List ℕ)) → bookBy s b (cut ls) ≡ bookBy s b ls
+  book-cut : (b : List ℕ) (ls : List (List ℕ)) → bookBy Alone s b (cut ls) ≡ bookBy Alone s b ls
   unfolding bookBy cut
   book-cut b [] = refl
-  book-cut b (l ∷ ls) = ap (λ z. bookBy s z (map short ls)) (bytes-cut b l) ∙ book-cut (bytesBy s b l) ls
+  book-cut b (l ∷ ls) = ap (λ z. bookBy Alone s z (map short ls)) (bytes-cut b l) ∙ book-cut (bytesBy Alone s b l) ls
 
   -- ---- lines one behind the other
 
-  answers-both : (b : List ℕ) (ls ms : List (List ℕ))
-      → answersBy s b (ls ++ ms) ≡ answersBy s b ls ++ answersBy s (bookBy s b ls) ms
+  answers-both : (b : List ℕ) (ls ms : List (List ℕ)) → answersBy Alone s b (ls ++ ms) ≡ answersBy Alone s b ls ++ answersBy Alone s (bookBy Alone s b ls) ms
   unfolding answersBy bookBy
   answers-both b [] ms = refl
-  answers-both b (l ∷ ls) ms = ap (λ z. answerBy s b l ∷ z) (answers-both (bytesBy s b l) ls ms)
+  answers-both b (l ∷ ls) ms = ap (λ z. answerBy Alone s b l ∷ z) (answers-both (bytesBy Alone s b l) ls ms)
 
-  book-both : (b : List ℕ) (ls ms : List (List ℕ)) → bookBy s b (ls ++ ms) ≡ bookBy s (bookBy s b ls) ms
+  book-both : (b : List ℕ) (ls ms : List (List ℕ)) → bookBy Alone s b (ls ++ ms) ≡ bookBy Alone s (bookBy Alone s b ls) ms
   unfolding bookBy
   book-both b [] ms = refl
-  book-both b (l ∷ ls) ms = book-both (bytesBy s b l) ls ms
+  book-both b (l ∷ ls) ms = book-both (bytesBy Alone s b l) ls ms
 
 output-both : (xs ys : List Answer) → output (xs ++ ys) ≡ output xs ++ output ys
 unfolding output
@@ -171,17 +171,16 @@ output-both (x ∷ xs) ys = rw (output-both xs ys) (sym (append-assoc (printed x
 -- ---- what the desk writes is the output of the answers to these lines
 
 record Told (s : Bool) (b : List ℕ) (ls : List (List ℕ)) (written after : List ℕ) : Type 0 where
-  pub outputs : written ≡ output (answersBy s b ls)
-  pub book : after ≡ bookBy s b ls
+  pub outputs : written ≡ output (answersBy Alone s b ls)
+  pub book : after ≡ bookBy Alone s b ls
 
 -- bytes at the front of a space
 front : (o x y : List ℕ) (n : ℕ) → n ≡ length x → y ≡ laid o 0 x → take n y ≡ x
 unfolding laid
 front o x y n e f = rw (f, e) (take-at x (drop (0 + length x) o) (length x) refl)
 
-told-more : (s : Bool) (b h piece : List ℕ) (pieces : List (List ℕ)) (b′ w w′ after : List ℕ)
-    → b′ ≡ bookBy s b (ended (h ++ piece))
-    → w ≡ output (answersBy s b (ended (h ++ piece))) → Told s b′ (linesIn (short (begun (h ++ piece))) pieces) w′ after
+told-more : (s : Bool) (b h piece : List ℕ) (pieces : List (List ℕ)) (b′ w w′ after : List ℕ) → b′ ≡ bookBy Alone s b (ended (h ++ piece))
+    → w ≡ output (answersBy Alone s b (ended (h ++ piece))) → Told s b′ (linesIn (short (begun (h ++ piece))) pieces) w′ after
     → Told s b (linesIn h (piece ∷ pieces)) (w ++ w′) after
 unfolding linesIn
 told-more s b h piece pieces b′ w w′ after e f t =
@@ -189,7 +188,7 @@ told-more s b h piece pieces b′ w w′ after e f t =
     let ms = linesIn (short (begun (h ++ piece))) pieces in
     record {
       outputs =
-          rw (f, t .outputs, e, answers-both s b ls ms) (sym (output-both (answersBy s b ls) (answersBy s (bookBy s b ls) ms)));
+          rw (f, t .outputs, e, answers-both s b ls ms) (sym (output-both (answersBy Alone s b ls) (answersBy Alone s (bookBy Alone s b ls) ms)));
       book = rw (t .book, e) (sym (book-both s b ls ms));
     }
 
@@ -199,21 +198,21 @@ unfolding linesIn
 fed (last {d} {book} {text} {text₁} {out} {book′} {out′} {r} i e q) =
     let t = e .takes q in
     let h : take (d .held) text₁ ≡ take (d .held) text = ap (λ n. take n text₁) (sym (add-zero (d .held))) ∙ i ∙ append-nil (take (d .held) text) in
-    let x = output (answersBy (d .sound) book (lastLine (take (d .held) text₁))) in
+    let x = output (answersBy Alone (d .sound) book (lastLine (take (d .held) text₁))) in
     rw (← h) (record { outputs = front out x out′ (r .written) (t .written) (t .out); book = t .book })
 fed (more {d} {book} {text} {piece} {text₁} {out} {book′} {text′} {out′} {written} {after} {r} {pieces} e p q f) =
     let t = p .takes q in
     let h = take (d .held) text in
-    let x = output (answersBy (d .sound) book (ended (h ++ piece))) in
+    let x = output (answersBy Alone (d .sound) book (ended (h ++ piece))) in
     let i = fed f in
     let k : take (r .desk .held) text′ ≡ short (begun (h ++ piece)) =
     front text₁ (short (begun (h ++ piece))) text′ (r .desk .held) (ap (λ z. z .held) (t .desk) ∙ ap (λ z. length (short (begun z))) e)
     (t .text ∙ ap (λ z. laid text₁ 0 (short (begun z))) e) in
     let s : r .desk .sound ≡ d .sound = ap (λ z. z .sound) (t .desk) in
     told-more (d .sound) book h piece pieces book′ (take (r .written) out′) written after
-    (t .book ∙ ap (λ z. bookBy (d .sound) book (ended z)) e)
-    (front out x out′ (r .written) (t .written ∙ ap (λ z. length (output (answersBy (d .sound) book (ended z)))) e)
-    (t .out ∙ ap (λ z. laid out 0 (output (answersBy (d .sound) book (ended z)))) e))
+    (t .book ∙ ap (λ z. bookBy Alone (d .sound) book (ended z)) e)
+    (front out x out′ (r .written) (t .written ∙ ap (λ z. length (output (answersBy Alone (d .sound) book (ended z)))) e)
+    (t .out ∙ ap (λ z. laid out 0 (output (answersBy Alone (d .sound) book (ended z)))) e))
     (rw (k, s) at i)
 
 -- ---- THE THEOREM
@@ -228,24 +227,24 @@ module _ (b text : List ℕ) (pieces : List (List ℕ)) (written after : List �
   outputs-whole : written ≡ output (answersOf b ls)
   outputs-whole =
       let s = sound b in
-      fed f .outputs ∙ ap output (sym (answers-cut s b (linesIn [] pieces)) ∙ ap (answersBy s b) lines-cut ∙ answers-cut s b ls)
+      fed f .outputs ∙ ap output (sym (answers-cut s b (linesIn [] pieces)) ∙ ap (answersBy Alone s b) lines-cut ∙ answers-cut s b ls)
 
-  book-whole : after ≡ bookBy (sound b) b ls
+  book-whole : after ≡ bookBy Alone (sound b) b ls
   book-whole =
       let s = sound b in
-      fed f .book ∙ sym (book-cut s b (linesIn [] pieces)) ∙ ap (bookBy s b) lines-cut ∙ book-cut s b ls
+      fed f .book ∙ sym (book-cut s b (linesIn [] pieces)) ∙ ap (bookBy Alone s b) lines-cut ∙ book-cut s b ls
 
 pub whole : Whole
 whole b text pieces written after f = record {
   outputs = outputs-whole b text pieces written after f;
   book = book-whole b text pieces written after f;
-  sent = rw (book-whole b text pieces written after f) (submits (sound b) b (linesOf (joined pieces)) refl);
+  sent = rw (book-whole b text pieces written after f) (submits Alone (sound b) b (linesOf (joined pieces)) refl);
 }
 
 -- ---- demand 3
 
-run : (b : List ℕ) (ls : List (List ℕ)) → Run b ls (answersOf b ls)
-run b ls = rw (append-nil ls, append-nil (answersOf b ls)) at (submits (sound b) b ls refl [] [] done)
+run : (b : List ℕ) (ls : List (List ℕ)) → Run b (singles ls) (answersOf b ls)
+run b ls = run-singles ls (submits Alone (sound b) b ls refl)
 
 pub desk-alone : DeskAlone
 desk-alone lent emptied e text pieces written after f =
@@ -253,5 +252,5 @@ desk-alone lent emptied e text pieces written after f =
     record {
       answers = answersOf emptied ls;
       outputs = whole emptied text pieces written after f .outputs;
-      alone = λ a low high. one-alone lent emptied e ls (answersOf emptied ls) (run emptied ls) a low high;
+      alone = λ a low high. one-alone-lines lent emptied e ls (answersOf emptied ls) (run emptied ls) a low high;
     }

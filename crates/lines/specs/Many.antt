@@ -7,29 +7,31 @@ use lib.Dec.{leb}
 use lib.ListN.{length, take, drop}
 use Rattle.meaning.specs.Printing.{printed}
 use Rattle.meaning.specs.declared.Answer.{Answer}
+use Rattle.meaning.specs.declared.Sent.{Sent}
+use Rattle.meaning.specs.declared.Sent.the-variants.{Alone}
 use Rattle.book.specs.Sound.{sound}
 use Rattle.answering.specs.Taking.{answerBy, bytesBy}
 use Rattle.lines.specs.Ended.{ended}
 use Rattle.lines.specs.declared.Progress.{Progress}
 
--- ---- lines answered one by one
+-- ---- lines answered one by one, each sent so
 
 -- their answers, over a book that is sound, or is not, as found before the first of them: no line changes that
-unfoldable pub answersBy : Bool → List ℕ → List (List ℕ) → List Answer
-answersBy s b [] = []
-answersBy s b (line ∷ lines) = answerBy s b line ∷ answersBy s (bytesBy s b line) lines
+unfoldable pub answersBy : Sent → Bool → List ℕ → List (List ℕ) → List Answer
+answersBy how s b [] = []
+answersBy how s b (line ∷ lines) = answerBy how s b line ∷ answersBy how s (bytesBy how s b line) lines
 
 -- and the book after them
-unfoldable pub bookBy : Bool → List ℕ → List (List ℕ) → List ℕ
-bookBy s b [] = b
-bookBy s b (line ∷ lines) = bookBy s (bytesBy s b line) lines
+unfoldable pub bookBy : Sent → Bool → List ℕ → List (List ℕ) → List ℕ
+bookBy how s b [] = b
+bookBy how s b (line ∷ lines) = bookBy how s (bytesBy how s b line) lines
 
--- over any book
+-- over any book, sent alone
 abbrev pub answersOf : List ℕ → List (List ℕ) → List Answer
-answersOf b lines = answersBy (sound b) b lines
+answersOf b lines = answersBy Alone (sound b) b lines
 
 abbrev pub bookAfter : List ℕ → List (List ℕ) → List ℕ
-bookAfter b lines = bookBy (sound b) b lines
+bookAfter b lines = bookBy Alone (sound b) b lines
 
 -- how many bytes lines take in a text, each with its byte 10
 unfoldable pub bytesIn : List (List ℕ) → ℕ
@@ -60,8 +62,8 @@ room s = leb (s .written + 33) (length (s .out))
 unfoldable pub one : Bool → Standing → List ℕ → Standing
 unfolding laid writtenAs
 one t s line =
-    let w = writtenAs (answerBy t (s .book) line) in
-    record { book = bytesBy t (s .book) line; out = laid (s .out) (s .written) w; read = s .read + (length line + 1); written = s .written + length w }
+    let w = writtenAs (answerBy Alone t (s .book) line) in
+    record { book = bytesBy Alone t (s .book) line; out = laid (s .out) (s .written) w; read = s .read + (length line + 1); written = s .written + length w }
 
 -- line by line, while there is room for an answer
 unfoldable pub many : Bool → List (List ℕ) → Standing → Standing

@@ -6,6 +6,7 @@ use mathlib.Core.List.{List, []}
 use lib.Dec.{leb}
 use lib.ListN.{length, take}
 use Rattle.meaning.specs.Desk.{output}
+use Rattle.meaning.specs.declared.Sent.the-variants.{Alone}
 use Rattle.book.specs.Sound.{sound}
 use Rattle.lines.specs.Ended.{ended, begun, lastLine, short}
 use Rattle.lines.specs.Many.{laid, answersBy, bookBy}
@@ -22,9 +23,9 @@ roomFor text out = leb (33 * length text) (length out)
 
 -- lines are answered over a book b, and of the text t some bytes are kept at its front; o is the answer space
 pub record Takes (lines : List (List ℕ)) (kept : List ℕ) (d : Desk) (b t o : List ℕ) (r : Step) (b′ t′ o′ : List ℕ) : Type 0 where
-  pub book : b′ ≡ bookBy (d .sound) b lines
-  pub out : o′ ≡ laid o 0 (output (answersBy (d .sound) b lines))
-  pub written : r .written ≡ length (output (answersBy (d .sound) b lines))
+  pub book : b′ ≡ bookBy Alone (d .sound) b lines
+  pub out : o′ ≡ laid o 0 (output (answersBy Alone (d .sound) b lines))
+  pub written : r .written ≡ length (output (answersBy Alone (d .sound) b lines))
   pub text : t′ ≡ laid t 0 kept
   pub desk : r .desk ≡ record { held = length kept; sound = d .sound }
 

@@ -11,7 +11,7 @@ use Rattle.meaning.specs.declared.Answer.{Answer}
 use Rattle.book.specs.Emptied.{Emptied}
 use Rattle.precheck.specs.Alone.{answersTo}
 use Rattle.lines.specs.Many.{answersOf, bookAfter}
-use Rattle.lines.specs.Sent.{Sent}
+use Rattle.lines.specs.Sent.{Singly}
 use Rattle.lines.specs.Pieces.{atFirst, Piece, End}
 use Rattle.lines.specs.declared.Desk.{Desk}
 use Rattle.lines.specs.declared.Step.{Step}
@@ -52,7 +52,7 @@ joined (piece ∷ pieces) = piece ++ joined pieces
 pub record AnswersLines (b text written after : List ℕ) : Type 0 where
   pub outputs : written ≡ output (answersOf b (linesOf text))
   pub book : after ≡ bookAfter b (linesOf text)
-  pub sent : Sent b (linesOf text) (answersOf b (linesOf text)) after
+  pub sent : Singly b (linesOf text) (answersOf b (linesOf text)) after
 
 abbrev pub Whole : Type 0
 Whole =

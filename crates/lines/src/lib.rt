@@ -10,6 +10,7 @@ ghost use Rattle.lines.specs.Keeping.{Keeps};
 ghost use Rattle.lines.specs.Pieces.{atFirst, Piece, End};
 use answering::answer;
 use meaning::Answer;
+use meaning::Sent;
 use soundness::is_sound;
 use text::next_line;
 use text::print;
@@ -75,7 +76,7 @@ fn answer_line(book: &mut [u8], line: &[u8], sound: bool, out: &mut [u8], at: us
     requires { ⌜ at + 33 ≤ length (now out) ⌝ }
     ensures { λ r. ⌜ Turn sound (now (book .entry)) (now (line .entry)) (now (out .entry)) at r (now (book .exit)) (now (out .exit)) ⌝ }
 {
-    let a = answer(book, line, sound);
+    let a = answer(book, line, sound, Sent::Alone);
     put_answer(out, at, a)
 }
 

@@ -12,6 +12,7 @@ use Rattle.meaning.specs.Edits.{edited, fits}
 use Rattle.meaning.specs.Judging.{judged}
 use Rattle.meaning.specs.Lone.{Step, reply, replied, unless, taken, afterReading, step, answersFrom, after}
 use Rattle.meaning.specs.declared.Answer.the-variants.{Taken, Judged}
+use Rattle.meaning.specs.declared.Sent.the-variants.{Alone}
 use Rattle.meaning.specs.Exercise.{commandRead, Entered, QuestionAnswered}
 use Rattle.meaning.proofs.Ranges.{reading-fits}
 
@@ -33,8 +34,8 @@ unless-taken zero b k e = (refl, refl)
 unless-taken (suc n) b k e = absurd (let z : _≡_ {A = ℕ} 0 1 = cc in omega arith)
 
 read-taken : (b : Book) (line : List ℕ) (r : Reading) (k : Command) → reading line ≡ r → commandRead r ≡ some k
-    → afterReading b r .answer ≡ Taken → One b k (afterReading b r)
-unfolding afterReading commandRead taken
+    → afterReading Alone b r .answer ≡ Taken → One b k (afterReading Alone b r)
+unfolding afterReading commandRead refusal
 read-taken b line (refused n) k z e t = absurd (let z : _≡_ {A = ℕ} 0 1 = cc in omega arith)
 read-taken b line (asks l v) k z e t =
     let i : commandOf l v ≡ k = cc in
@@ -66,7 +67,7 @@ accepted {b = b} {lines = lines} {ks = ks} e = through lines b ks (e .asked) (e 
 -- ---- questions
 
 read-answered : (b : Book) (r : Reading) (q : Question) → commandRead r ≡ some (ask q)
-    → afterReading b r .answer ≡ Judged (judged b q)
+    → afterReading Alone b r .answer ≡ Judged (judged b q)
 unfolding afterReading commandRead taken refusal conditions unless reply replied
 read-answered b (refused n) q e = absurd (let z : _≡_ {A = ℕ} 0 1 = cc in omega arith)
 read-answered b (asks l v) q e = let i : commandOf l v ≡ ask q = cc in ap (λ k. taken b k .answer) i

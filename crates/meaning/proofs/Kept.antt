@@ -14,6 +14,7 @@ use Rattle.meaning.specs.Edits.{edited, fits}
 use Rattle.meaning.specs.Reading.{Reading, refused, asks, reading}
 use Rattle.meaning.specs.Lone.{unless, taken, afterReading, step, after}
 use Rattle.meaning.specs.Sound.{soundLone}
+use Rattle.meaning.specs.declared.Sent.the-variants.{Alone}
 use Rattle.meaning.proofs.First.{command-not-refused}
 use Rattle.meaning.proofs.Ranges.{reading-fits}
 use Rattle.meaning.proofs.Good.{Lists, Good, good-lists, good-of-sound, sound-of-good}
@@ -61,12 +62,12 @@ unless-good b g zero k h = h refl
 unless-good b g (suc n) k h = g
 
 pub taken-good : (b : Book) → Good b → (k : Command) → fits k ≡ true → Good (taken b k .book)
-unfolding taken
+unfolding taken refusal
 taken-good b g k f = unless-good b g (refusal b k) k (good-edited b g k f)
 
 after-good : (b : Book) → Good b → (r : Reading)
-    → ((l : Letter) (v : List ℕ) → r ≡ asks l v → fits (commandOf l v) ≡ true) → Good (afterReading b r .book)
-unfolding afterReading
+    → ((l : Letter) (v : List ℕ) → r ≡ asks l v → fits (commandOf l v) ≡ true) → Good (afterReading Alone b r .book)
+unfolding afterReading taken
 after-good b g (refused n) h = g
 after-good b g (asks l v) h = taken-good b g (commandOf l v) (h l v refl)
 

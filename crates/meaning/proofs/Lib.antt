@@ -2,6 +2,7 @@ pub mod DeskExample
 pub mod Lesson
 pub mod Marked
 pub mod Edges
+pub mod BatchEdges
 pub mod Order
 pub mod Shapes
 pub mod Ranges
@@ -17,6 +18,7 @@ pub mod KeptOrder
 pub mod KeptPeriods
 pub mod Kept
 pub mod Names
+pub mod HowSent
 pub mod Numerals
 pub mod Nobody
 pub mod Exactly

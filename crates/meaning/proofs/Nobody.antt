@@ -13,7 +13,7 @@ use Rattle.meaning.specs.Forms.{Letter, Shape, shapes, hasLetter, hasLen
 use Rattle.meaning.specs.Records.{_!_, commandOf}
 use Rattle.meaning.specs.Reading.{Reading, refused, asks, readAll, byNumbers, byShape, byFields, numbersRead, unlessWrong, reading}
 use Rattle.meaning.specs.Refusals.{wrong}
-use Rattle.meaning.specs.Lone.{afterReading, step}
+use Rattle.meaning.specs.Lone.{afterReading, stepSent}
 use Rattle.meaning.specs.Nobody.{NamesNobody, Unread, NobodyRefused}
 use Rattle.meaning.proofs.Names.{reading-csd, reading-names}
 
@@ -59,8 +59,8 @@ few-refusals line = few-right (numbersRead line) (few-read line)
 -- ---- a line that is read names a depository
 
 unread : (line : List ℕ) → NamesNobody line → (r : Reading) → reading line ≡ r → FewRefusals r → Unread line
-unfolding step afterReading
-unread line h (refused n) e f = record { refusal = n; low = f .0; high = f .1; everywhere = λ b. rw e }
+unfolding stepSent afterReading
+unread line h (refused n) e f = record { refusal = n; low = f .0; high = f .1; everywhere = λ how b. rw e }
 unread line h (asks l v) e f =
     let c = reading-csd line l v e in
     absurd (false≢true (sym (h (v ! 0) (c .0) (c .1)) ∙ reading-names line l v e))

@@ -1,22 +1,24 @@
 -- The order of a lone book's records carries no meaning: books with the same records give the same answers, line by
 -- line and for whole lists.
 use Prim.Native.Nat.{ℕ, zero, suc}
-use mathlib.Core.Path.{_≡_, refl, ap, ap₂, _∙_, fun-ext}
-use mathlib.Core.Bool.{Bool, not, _&&_}
+use mathlib.Core.Path.{_≡_, refl, ap, ap₂, sym, subst, _∙_, fun-ext}
+use mathlib.Core.Bool.{Bool, true, false, not, _&&_}
 use mathlib.Core.List.{List, [], _∷_}
 use mathlib.Core.Option.{Option, some, none}
 use lib.Dec.{eqb}
 use Rattle.tables.specs.Count.{has, least}
 use Rattle.tables.proofs.Lists.{same-length, same-has, same-least, same-cons, same-without, same-change}
-use Rattle.meaning.specs.Records.{TypeRecord, Rule, Row, Period, Book, Question, Command, commandOf, questionIn, addType, endType, addRule, reorder, deleteRule, addRow, deleteRow, addPeriod, endPeriod, ask, positive, negative, party, account, security, rejection, validationHold, partyHold}
+use Rattle.meaning.specs.Records.{_!_, TypeRecord, Rule, Row, Period, Book, Question, Command, commandOf, questionIn, addType, endType, addRule, reorder, deleteRule, addRow, deleteRow, addPeriod, endPeriod, ask, positive, negative, party, account, security, rejection, validationHold, partyHold}
 use Rattle.meaning.specs.Reading.{Reading, refused, asks, reading}
 use Rattle.meaning.specs.Keys.{isType, isRule, ofRule, isRow, isPeriod, clash}
 use Rattle.meaning.specs.Refusals.{typeOutside, periodOutside, otherCriteria, firstOf, conditions, refusal}
 use Rattle.meaning.specs.Edits.{typeUntil, ruleMoved, rowMoved, periodUntil, edited}
 use Rattle.meaning.specs.Judging.{covers, meetsAll, hasCode, tests, matches, ruleApplies, applies, named, deciding, decided, verdict, judged}
-use Rattle.meaning.specs.Lone.{Step, replied, reply, unless, taken, afterReading, step, answersFrom}
+use Rattle.meaning.specs.Lone.{Step, elsewhere, replied, reply, unless, takenSent, afterReading, stepSent, step, answersFrom}
 use Rattle.meaning.specs.SameBook.{SameBook}
 use Rattle.meaning.specs.declared.Answer.the-variants.{Judged}
+use Rattle.meaning.specs.declared.Sent.{Sent}
+use Rattle.meaning.specs.declared.Sent.the-variants.{Alone}
 
 module _ (b c : Book) (s : SameBook b c) where
   -- what is asked of each list
@@ -168,18 +170,28 @@ unfolding unless
 unless-same b c s zero k = record { answer = reply-same b c s k; book = edited-same b c s k }
 unless-same b c s (suc n) k = record { answer = refl; book = s }
 
-pub taken-same : (b c : Book) → SameBook b c → (k : Command) → SameStep (taken b k) (taken c k)
-unfolding taken
-taken-same b c s k = rw (refusal-same b c s k) (unless-same b c s (refusal c k) k)
+-- told whether the line names another depository than its batch
+taken-same : (b c : Book) → SameBook b c → (e : Bool) (k : Command) → SameStep (takenSent e b k) (takenSent e c k)
+unfolding takenSent refusal
+taken-same b c s true k = record { answer = refl; book = s }
+taken-same b c s false k =
+    subst (λ n. SameStep (unless n b k) (unless (refusal c k) c k)) (sym (refusal-same b c s k))
+    (unless-same b c s (refusal c k) k)
 
-after-same : (b c : Book) → SameBook b c → (r : Reading) → SameStep (afterReading b r) (afterReading c r)
+after-same : (how : Sent) (b c : Book) → SameBook b c → (r : Reading)
+    → SameStep (afterReading how b r) (afterReading how c r)
 unfolding afterReading
-after-same b c s (refused n) = record { answer = refl; book = s }
-after-same b c s (asks l v) = taken-same b c s (commandOf l v)
+after-same how b c s (refused n) = record { answer = refl; book = s }
+after-same how b c s (asks l v) = taken-same b c s (elsewhere how (v ! 0)) (commandOf l v)
+
+pub sent-same : (how : Sent) (b c : Book) → SameBook b c → (line : List ℕ)
+    → SameStep (stepSent how b line) (stepSent how c line)
+unfolding stepSent
+sent-same how b c s line = after-same how b c s (reading line)
 
 pub step-same : (b c : Book) → SameBook b c → (line : List ℕ) → SameStep (step b line) (step c line)
 unfolding step
-step-same b c s line = after-same b c s (reading line)
+step-same b c s line = sent-same Alone b c s line
 
 pub answers-same : (lines : List (List ℕ)) (b c : Book) → SameBook b c → answersFrom b lines ≡ answersFrom c lines
 unfolding answersFrom

@@ -11,6 +11,7 @@ pub mod Judging
 pub mod Lone
 pub mod Printing
 pub mod Desk
+pub mod Batch
 pub mod Writing
 pub mod Keler
 pub mod SameBook

@@ -116,7 +116,13 @@ conditions b (endPeriod day kind number code first last) =
     ∷ []
 conditions b (ask q) = []
 
--- the earliest refusal whose condition holds; 0 where none does
-unfoldable pub refusal : Book → Command → ℕ
+-- the earliest refusal whose condition holds; 0 where none does. 12, where a line names another depository than its
+-- batch, stands straight after 5 and before the command's own.
+unfoldable pub refusalSent : Bool → Book → Command → ℕ
 unfolding conditions
-refusal b k = firstOf (conditions b k)
+refusalSent elsewhere b k = firstOf ((12, elsewhere) ∷ conditions b k)
+
+-- of a line that names its batch's depository, or was sent alone
+unfoldable pub refusal : Book → Command → ℕ
+unfolding refusalSent
+refusal b k = refusalSent false b k

@@ -20,3 +20,15 @@ pub enum Answer {
     Refused(u8),
     Judged(Verdict),
 }
+
+// How a line was sent: alone, or in a batch of a depository.
+pub enum Sent {
+    Alone,
+    InBatch(u8),
+}
+
+// What a batch is answered: its refusal's number, or how many lines it has; their answers are in the answer space.
+pub enum Batch {
+    Refused(u8),
+    Answered(usize),
+}

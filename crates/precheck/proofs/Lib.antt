@@ -1,3 +1,4 @@
 pub mod Alone
 pub mod Runs
+pub mod Singly
 pub mod Tries

@@ -1,6 +1,6 @@
 -- What a reviewer will try, and the slips of this trade: none keeps the promise.
 use Prim.Native.Nat.{ℕ, _≤_}
-use mathlib.Core.Path.{_≡_, refl, ap, sym, _∙_}
+use mathlib.Core.Path.{_≡_, refl, ap, sym, subst, _∙_}
 use mathlib.Core.Bool.{true, false, false≢true}
 use mathlib.Core.List.{List, [], _∷_}
 use native.Mathlib.Omega.{arith}
@@ -9,14 +9,14 @@ use Rattle.tables.specs.Bytes.{zeros}
 use Rattle.tables.specs.Count.{keep}
 use Rattle.tables.proofs.Zeros.{length-zeros}
 use Rattle.tables.proofs.Lists.{same-length}
-use Rattle.tables.proofs.Counts.{cases}
 use Rattle.meaning.specs.Text.{same}
 use Rattle.meaning.specs.Records as M
 use Rattle.meaning.specs.SameBook.{SameBook}
-use Rattle.meaning.specs.Lone.{step, after, names}
+use Rattle.meaning.specs.Lone.{told, afterSent, stepSent, step, after, names, counts}
 use Rattle.meaning.specs.Printing.{printed}
 use Rattle.meaning.specs.declared.Answer.{Answer}
 use Rattle.meaning.specs.declared.Answer.the-variants.{Taken}
+use Rattle.meaning.specs.declared.Sent.the-variants.{Alone}
 use Rattle.meaning.proofs.Order.{step-same}
 use Rattle.meaning.proofs.Names.{names-depository}
 use Rattle.meaning.proofs.SameLists.{same-self}
@@ -26,89 +26,68 @@ use Rattle.book.specs.Sound.{sound}
 use Rattle.book.proofs.NoRecords.{emptied-yes, emptied-sound, emptied-lone}
 use Rattle.book.proofs.SameBooks.{same-books, same-then}
 use Rattle.precheck.specs.Promise.{Submitted}
-use Rattle.precheck.specs.Alone.{Run, done, sent}
-use Rattle.precheck.specs.Tries.{bookLeft, LeftBy, SomeLeft, Refuted, typeLine, neighboursLine, deskLines, ruleLine, ruleLines, Tries, kelerBook, movedLines, Slips}
-use Rattle.precheck.proofs.Alone.{shared-answer, named-after, other-after}
-use Rattle.precheck.proofs.Runs.{some-run}
+use Rattle.precheck.specs.Tries.{LeftBy, SomeLeft, Refuted, typeLine, neighboursLine, deskLines, ruleLine, ruleLines, Tries, kelerBook, movedLines, Slips}
+use Rattle.precheck.proofs.Alone.{Fed, from, keep-alone, shared-answer, named-after, other-after}
+use Rattle.precheck.proofs.Runs.{some-steps}
 
 -- ---- there are such books
 
 some-left : (lines : List (List ℕ)) → SomeLeft lines
 some-left lines =
-    let r = some-run (zeros bookSize) lines in
+    let r = some-steps (zeros bookSize) (told Alone lines) in
     let size = length-zeros bookSize in
     record {
-      book = bookLeft (r .run);
+      book = r .after;
       leftBy = record {
         lent = zeros bookSize;
         start = zeros bookSize;
         emptied = emptied-yes (zeros bookSize) (zeros bookSize) size (ap zeros (sym size));
         answers = r .answers;
-        run = r .run;
-        left = refl;
+        steps = r .steps;
       };
     }
-
--- ---- what a run leaves
-
-left-sound : {b : List ℕ} {lines : List (List ℕ)} {as′ : List Answer} (r : Run b lines as′) → sound b ≡ true
-    → sound (bookLeft r) ≡ true
-unfolding bookLeft
-left-sound done s = s
-left-sound (sent t r) s = left-sound r (t .stays s)
-
--- of each depository the lone book after the lines that name it
-module _ (a : ℕ) (low : 1 ≤ a) (high : a ≤ 8) where
-  left-lone : {b : List ℕ} {lines : List (List ℕ)} {as′ : List Answer} (r : Run b lines as′) (m : M.Book)
-      → sound b ≡ true → SameBook (loneBook a b) m → SameBook (loneBook a (bookLeft r)) (after m (keep (names a) lines))
-  unfolding bookLeft keep after
-  left-lone done m s h = h
-  left-lone (sent {book = b} {next = n} {line = line} t r) m s h =
-      cases (names a line)
-      (λ e.
-      rw e
-      (left-lone r (step m line .book) (t .stays s)
-      (same-then (loneBook a n) (step (loneBook a b) line .book) (step m line .book)
-      (named-after a low high b n line e (t .records s a low high)) (step-same (loneBook a b) m h line .book))))
-      (λ e.
-      rw e
-      (left-lone r m (t .stays s)
-      (same-then (loneBook a n) (loneBook a b) m (other-after a low high b n line e (t .records s a low high)) h)))
 
 -- ---- what lines leave of an emptied book is sound, and of each depository the lone book after those that name it
 
 module _ (lines : List (List ℕ)) (b : List ℕ) (l : LeftBy lines b) where
+  -- a's lone book fed with them, which is empty at first
+  fed : (a : ℕ) (low : 1 ≤ a) (high : a ≤ 8) → Fed a low high M.empty (told Alone lines) (l .answers) b
+  fed a low high =
+      from a low high (l .steps) M.empty (emptied-sound (l .lent) (l .start) (l .emptied))
+      (same-books (emptied-lone (l .lent) (l .start) (l .emptied) a low))
+
   held-sound : sound b ≡ true
-  held-sound = rw (← (l .left)) (left-sound (l .run) (emptied-sound (l .lent) (l .start) (l .emptied)))
+  held-sound = fed 1 (omega arith) (omega arith) .stays
 
   module _ (a : ℕ) (low : 1 ≤ a) (high : a ≤ 8) where
     abbrev m : M.Book
     m = after M.empty (keep (names a) lines)
 
     held : SameBook (loneBook a b) m
-    held =
-        rw (← (l .left))
-        (left-lone a low high (l .run) M.empty (emptied-sound (l .lent) (l .start) (l .emptied))
-        (same-books (emptied-lone (l .lent) (l .start) (l .emptied) a low)))
+    unfolding after
+    held = subst (SameBook (loneBook a b)) (ap (afterSent M.empty) (keep-alone a lines)) (fed a low high .left)
 
     module _ (line b′ : List ℕ) (x : Answer) (t : Submitted b line x b′) where
       -- the answer to a line that names the depository, and its records after it, are the lone book's
       answer-held : names a line ≡ true → x ≡ step m line .answer
+      unfolding stepSent step
       answer-held e =
-          t .answered ∙ shared-answer a low high b line (names-depository a line low high e) held-sound
+          t .answered ∙ shared-answer a low high Alone b b′ line (names-depository a line low high e) held-sound
           ∙ step-same (loneBook a b) m held line .answer
 
       book-held : names a line ≡ true → SameBook (loneBook a b′) (step m line .book)
+      unfolding stepSent step
       book-held e =
           same-then (loneBook a b′) (step (loneBook a b) line .book) (step m line .book)
-          (named-after a low high b b′ line e (t .records held-sound a low high))
+          (named-after a low high Alone b b′ line e (t .records held-sound a low high))
           (step-same (loneBook a b) m held line .book)
 
       -- any other line leaves its records
       other-held : names a line ≡ false → SameBook (loneBook a b′) m
+      unfolding counts names
       other-held e =
           same-then (loneBook a b′) (loneBook a b) m
-          (other-after a low high b b′ line e (t .records held-sound a low high)) held
+          (other-after a low high Alone b b′ line e (t .records held-sound a low high)) held
 
 -- ---- an answer, by the lone book after the lines that name the depository
 

@@ -1,3 +1,4 @@
 pub mod Promise
+pub mod Batch
 pub mod Alone
 pub mod Tries

@@ -6,29 +6,25 @@ use mathlib.Core.List.{List, [], _∷_, _++_}
 use Rattle.meaning.specs.Text.{bytes, numeral}
 use Rattle.meaning.specs.Records as M
 use Rattle.meaning.specs.SameBook.{SameBook}
+use Rattle.meaning.specs.Lone.{told}
 use Rattle.meaning.specs.Printing.{printed}
 use Rattle.meaning.specs.Keler.{kelerLines}
 use Rattle.meaning.specs.declared.Answer.{Answer}
 use Rattle.meaning.specs.declared.Answer.the-variants.{Taken, Refused}
+use Rattle.meaning.specs.declared.Sent.the-variants.{Alone}
 use Rattle.book.specs.Emptied.{Emptied}
 use Rattle.book.specs.Lone.{loneBook}
 use Rattle.precheck.specs.Promise.{Submitted}
-use Rattle.precheck.specs.Alone.{Run, done, sent}
+use Rattle.precheck.specs.Batch.{Steps}
 
 -- ---- the books: what lines sent one by one leave of an emptied book
-
-unfoldable pub bookLeft : {book : List ℕ} {lines : List (List ℕ)} {answers : List Answer} → Run book lines answers
-    → List ℕ
-bookLeft (done {book = book}) = book
-bookLeft (sent submitted run) = bookLeft run
 
 pub record LeftBy (lines : List (List ℕ)) (book : List ℕ) : Type 0 where
   pub lent : List ℕ
   pub start : List ℕ
   pub emptied : Emptied lent start 0
   pub answers : List Answer
-  pub run : Run start lines answers
-  pub left : bookLeft run ≡ book
+  pub steps : Steps start (told Alone lines) answers book
 
 -- one that they leave
 pub record SomeLeft (lines : List (List ℕ)) : Type 0 where

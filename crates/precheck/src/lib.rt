@@ -5,6 +5,7 @@ ghost use Rattle.book.specs.Emptied.{Emptied};
 ghost use Rattle.precheck.specs.Promise.{Submitted};
 use answering::answer;
 use meaning::Answer;
+use meaning::Sent;
 use soundness::is_sound;
 
 // Makes a book of no records from lent space of the exact size and answers 0; other sizes get 1 and stay untouched.
@@ -19,5 +20,5 @@ pub fn submit(book: &mut [u8], line: &[u8]) -> Answer
     ensures { λ r. ⌜ Submitted (now (book .entry)) (now (line .entry)) r (now (book .exit)) ⌝ }
 {
     let sound = is_sound(book);
-    answer(book, line, sound)
+    answer(book, line, sound, Sent::Alone)
 }

@@ -1,5 +1,5 @@
 -- `answering::answer` meets its contract. Assumes nothing.
-use Rattle.answering.proofs.Submits.{answers-unsound, answers-unread, answers-wrong, answers-read}
+use Rattle.answering.proofs.Submits.{answers-unsound, answers-unread, answers-wrong, answers-elsewhere, answers-read}
 use borrow.Author.Needs.{needs}
 use Rattle.answering.proofs.answer.Statement.{statement}
 use Rattle.answering.proofs.answer.Tie as tie
@@ -14,6 +14,8 @@ answer-spec =
     (λ c κs. search needs)
     (λ c κs. search needs)
     (λ c. search answers-wrong)
+    (λ c κs. search needs)
+    (λ c. search answers-elsewhere)
     (λ c κs. search needs)
     (λ c. search needs)
     (λ c. search answers-read))
