@@ -62,7 +62,7 @@ module _ (o : List ℕ) (w : ℕ) where
     unfolding laid
     laid-size = omega (arith, head, length-append (take w o ++ x) (drop (w + length x) o))
 
-    laid-behind : (y : List ℕ) → laid (laid o w x) (w + length x) y ≡ laid o w (x ++ y)
+    pub laid-behind : (y : List ℕ) → laid (laid o w x) (w + length x) y ≡ laid o w (x ++ y)
     unfolding laid
     laid-behind y =
         let p = take w o ++ x in
