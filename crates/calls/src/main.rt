@@ -169,7 +169,13 @@ fn read_behind(fd: i32, name: &[u8], calls: &mut [u8], held: usize) -> usize
 }
 
 // A piece came behind the bytes held: the calls that are ended now are answered, and the one that is begun is kept.
-fn answer_piece(book: &mut [u8], calls: &mut [u8], to: usize, text: &mut [u8], lent: &mut [u8]) -> usize
+fn answer_piece(
+    book: &mut [u8],
+    calls: &mut [u8],
+    to: usize,
+    text: &mut [u8],
+    lent: &mut [u8],
+) -> usize
     requires { ⌜ to ≤ length (now calls) ⌝ }
     ensures { λ r. ⌜ r ≤ length (now (calls .exit)) ⌝ }
 {
@@ -182,7 +188,10 @@ fn answer_end(book: &mut [u8], calls: &[u8], held: usize, text: &mut [u8], lent:
     requires { ⌜ held ≤ length (now calls) ⌝ }
 {
     if held == calls.len() {
-        io::write_all(STDERR_FILENO, b"calls: a call is longer than 1048575 bytes\n");
+        io::write_all(
+            STDERR_FILENO,
+            b"calls: a call is longer than 1048575 bytes\n",
+        );
         return;
     }
     if held > 0 {
@@ -192,7 +201,14 @@ fn answer_end(book: &mut [u8], calls: &[u8], held: usize, text: &mut [u8], lent:
 
 // Answers until the end of input. A proved loop has to end, so it counts its turns down from a number that no input
 // uses up.
-fn answer_all(fd: i32, name: &[u8], book: &mut [u8], calls: &mut [u8], text: &mut [u8], lent: &mut [u8]) {
+fn answer_all(
+    fd: i32,
+    name: &[u8],
+    book: &mut [u8],
+    calls: &mut [u8],
+    text: &mut [u8],
+    lent: &mut [u8],
+) {
     let mut held: usize = 0;
     let mut turns = u64::MAX;
     while turns > 0 {

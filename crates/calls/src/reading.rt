@@ -108,7 +108,12 @@ fn coded_at(call: &[u8], at: usize) -> Coded
     requires { ⌜ at ≤ length (now call) ⌝ }
 {
     if byte_at(call, at) == b'%' {
-        return coded_by(call, at, hex(byte_at(call, at + 1)), hex(byte_at(call, at + 2)));
+        return coded_by(
+            call,
+            at,
+            hex(byte_at(call, at + 1)),
+            hex(byte_at(call, at + 2)),
+        );
     }
     coded_by(call, at, 16, 16)
 }

@@ -9,13 +9,13 @@ use crate::write_line;
 use crate::wrong;
 use basics::byte_within;
 use basics::wide;
-use meaning::Batch;
 use batches::MOST;
 use batches::WIDTH;
 use batches::submit_batch;
 use libc::STDERR_FILENO;
 use libc::STDIN_FILENO;
 use meaning::Answer;
+use meaning::Batch;
 ghost use Prim.Native.Nat.{_≤_};
 ghost use lib.ListN.{length};
 
@@ -28,7 +28,10 @@ fn text_space() -> [u8; TEXT] {
 }
 
 fn too_large() -> u8 {
-    io::write_all(STDERR_FILENO, b"precheck: batch: the file has more than 1048575 bytes\n");
+    io::write_all(
+        STDERR_FILENO,
+        b"precheck: batch: the file has more than 1048575 bytes\n",
+    );
     FAILED
 }
 
