@@ -37,7 +37,8 @@ pub record SubmittedAs (how : Sent) (before line : List ℕ) (answer : Answer) (
   -- a sound book stays sound
   pub stays : sound before ≡ true → sound after ≡ true
   -- and holds, of every depository, exactly the records that demand 2 gives
-  pub records : sound before ≡ true → (c : ℕ) → 1 ≤ c → c ≤ 8 → SameBook (loneBook c after) (loneAfter how c before line)
+  pub records : sound before ≡ true → (c : ℕ) → 1 ≤ c → c ≤ 8
+      → SameBook (loneBook c after) (loneAfter how c before line)
 
 -- of a line sent alone
 abbrev pub Submitted : List ℕ → List ℕ → Answer → List ℕ → Type 0

@@ -134,12 +134,16 @@ fn answer_calls(book: &mut [u8], calls: &[u8], text: &mut [u8], lent: &mut [u8])
     at
 }
 
-// Moves the bytes from an index up to another to the front, and returns how many they are.
+// Moves the bytes from an index up to another to the front, and returns how many they are; none where there are none.
 fn keep(calls: &mut [u8], from: usize, to: usize) -> usize
-    requires { ⌜ from ≤ to ⌝ }
-    requires { ⌜ to ≤ length (now calls) ⌝ }
     ensures { λ r. ⌜ r ≤ length (now (calls .exit)) ⌝ }
 {
+    if from > to {
+        return 0;
+    }
+    if to > calls.len() {
+        return 0;
+    }
     let n = to - from;
     let mut i = 0;
     while i < n {

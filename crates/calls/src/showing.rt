@@ -1,7 +1,7 @@
 // Writes answers as vectors/CALLS.md says.
-use batches::Batch;
 use libc::STDOUT_FILENO;
 use meaning::Answer;
+use meaning::Batch;
 ghost use Prim.Native.Nat.{_≤_};
 ghost use lib.ListN.{length};
 

@@ -9,13 +9,13 @@ use crate::write_line;
 use crate::wrong;
 use basics::byte_within;
 use basics::wide;
-use batches::Batch;
 use batches::MOST;
 use batches::WIDTH;
 use batches::submit_batch;
 use libc::STDERR_FILENO;
 use libc::STDIN_FILENO;
 use meaning::Answer;
+use meaning::Batch;
 ghost use Prim.Native.Nat.{_≤_};
 ghost use lib.ListN.{length};
 

@@ -4,7 +4,7 @@ use mathlib.Core.List.{[], _∷_, _++_}
 use lib.ListN.{replicate}
 use Rattle.meaning.specs.Text.{bytes}
 use Rattle.meaning.specs.Records.{empty}
-use Rattle.meaning.specs.Batch.{batchResult, batchLines, spaced, spaceAfter}
+use Rattle.meaning.specs.Batch.{batchResult, batchLines, spaceAfter}
 use Rattle.meaning.specs.Lone.{told, answersSent, loneAnswersSent}
 use Rattle.meaning.specs.declared.Answer.the-variants.{Taken, Refused}
 use Rattle.meaning.specs.declared.Batch.the-variants as Result

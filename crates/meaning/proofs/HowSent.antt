@@ -2,15 +2,14 @@
 -- lists.
 use Prim.Native.Nat.{ℕ}
 use mathlib.Core.Path.{_≡_, refl, ap, sym, _∙_}
-use mathlib.Core.Bool.{Bool, true, false, not, _||_}
+use mathlib.Core.Bool.{Bool, true, false}
 use mathlib.Core.List.{List}
 use mathlib.Core.Logic.{_⊎_, inl, inr}
-use lib.Dec.{eqb}
 use Rattle.meaning.specs.Forms.{Letter}
 use Rattle.meaning.specs.Records.{_!_, Book, Command, commandOf}
 use Rattle.meaning.specs.Reading.{Reading, refused, asks, reading}
 use Rattle.meaning.specs.Refusals.{refusalSent, refusal}
-use Rattle.meaning.specs.Lone.{Step, elsewhere, takenSent, taken, afterReading, isQuestion, keepsRead, keeps, stepSent, step, depository}
+use Rattle.meaning.specs.Lone.{Step, elsewhere, takenSent, taken, afterReading, keepsRead, keeps, stepSent, step, depository}
 use Rattle.meaning.specs.declared.Answer.the-variants.{Refused}
 use Rattle.meaning.specs.declared.Sent.{Sent}
 use Rattle.meaning.specs.declared.Sent.the-variants.{Alone}

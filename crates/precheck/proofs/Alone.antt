@@ -1,7 +1,7 @@
 -- Demand 3, proved.
 use Prim.Native.Nat.{ℕ, _≤_}
 use mathlib.Core.Path.{_≡_, refl, ap, ap₂, sym, subst, _∙_}
-use mathlib.Core.Bool.{true, false, not, _&&_, false≢true}
+use mathlib.Core.Bool.{true, false, not, false≢true}
 use mathlib.Core.List.{List, [], _∷_, _++_}
 use Rattle.tables.specs.Count.{keep}
 use Rattle.tables.proofs.Counts.{cases, and-r}
@@ -19,9 +19,9 @@ use Rattle.book.specs.Lone.{loneBook}
 use Rattle.book.specs.Sound.{sound}
 use Rattle.book.proofs.NoRecords.{emptied-sound, emptied-lone}
 use Rattle.book.proofs.SameBooks.{same-books, same-then}
-use Rattle.precheck.specs.Promise.{answerIn, loneAfter, SubmittedAs}
+use Rattle.precheck.specs.Promise.{answerIn, loneAfter}
 use Rattle.precheck.specs.Batch.{Steps, stop, next}
-use Rattle.precheck.specs.Alone.{Call, single, batch, stands, stood, Run, done, sent, batched, answersAt, OneAlone, TwoRuns, singles, answersTo, OneAloneLines, TwoRunsLines}
+use Rattle.precheck.specs.Alone.{Call, stands, stood, Run, done, sent, batched, answersAt, OneAlone, TwoRuns, singles, answersTo, OneAloneLines, TwoRunsLines}
 
 -- ---- a run as steps, line after line
 
@@ -99,10 +99,12 @@ module _ (a : ℕ) (low : 1 ≤ a) (high : a ≤ 8) where
       let d = names-depository a line low high named in
       let first : x ≡ stepSent how m line .answer = t .answered ∙ shared-answer how b n line d s ∙ u .answer in
       let m′ = stepSent how m line .book in
-      let i = from r m′ (t .stays s) (same-then (loneBook a n) (stepSent how (loneBook a b) line .book) m′ (named-after how b n line named (t .records s a low high)) (u .book)) in
+      let own = named-after how b n line named (t .records s a low high) in
+      let i = from r m′ (t .stays s) (same-then (loneBook a n) (stepSent how (loneBook a b) line .book) m′ own (u .book)) in
       record { answered = rw e (ap₂ _∷_ first (i .answered)); left = rw e (i .left); stays = i .stays })
       (λ e.
-      let i = from r m (t .stays s) (same-then (loneBook a n) (loneBook a b) m (other-after how b n line e (t .records s a low high)) h) in
+      let own = other-after how b n line e (t .records s a low high) in
+      let i = from r m (t .stays s) (same-then (loneBook a n) (loneBook a b) m own h) in
       record { answered = rw e (i .answered); left = rw e (i .left); stays = i .stays })
 
 -- what the lone book answers, which is empty at first
@@ -113,8 +115,8 @@ lone-from a ls = refl
 -- Demand 3.
 pub one-alone : OneAlone
 one-alone lent book e calls as′ r a low high =
-    from a low high (run-steps r .steps) M.empty (emptied-sound lent book e) (same-books (emptied-lone lent book e a low)) .answered
-    ∙ lone-from a (stood calls)
+    let own = same-books (emptied-lone lent book e a low) in
+    from a low high (run-steps r .steps) M.empty (emptied-sound lent book e) own .answered ∙ lone-from a (stood calls)
 
 pub two-runs : TwoRuns
 unfolding loneAnswersSent
@@ -136,7 +138,8 @@ pub run-singles : {b b′ : List ℕ} {xs : List Answer} (lines : List (List ℕ
 run-singles [] stop = done
 run-singles (line ∷ lines) (next t r) = sent t (run-singles lines r)
 
-pub keep-alone : (a : ℕ) (lines : List (List ℕ)) → keep (counts a) (told Alone lines) ≡ told Alone (keep (names a) lines)
+pub keep-alone : (a : ℕ) (lines : List (List ℕ))
+    → keep (counts a) (told Alone lines) ≡ told Alone (keep (names a) lines)
 unfolding keep counts elsewhere
 keep-alone a [] = refl
 keep-alone a (line ∷ lines) =

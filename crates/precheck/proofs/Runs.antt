@@ -28,7 +28,7 @@ use Rattle.book.proofs.Lists.{book-same, list-same}
 use Rattle.book.proofs.SameBooks.{same-books, same-then}
 use Rattle.precheck.specs.Promise.{SubmittedAs, answerIn, loneAfter, leftAsFound}
 use Rattle.precheck.specs.Batch.{Steps, stop, next, Batched}
-use Rattle.precheck.specs.Alone.{Run, done, sent, batched, Call, single, batch, stood, SomeRun, OneAnswer, NobodysLine}
+use Rattle.precheck.specs.Alone.{done, sent, batched, single, batch, SomeRun, OneAnswer, NobodysLine}
 use Rattle.precheck.proofs.Alone.{run-steps}
 use Rattle.answering.proofs.Submits.{keeps-promise, untaken-kept}
 
@@ -61,7 +61,8 @@ some-run book (single line ∷ calls) =
     record { answers = _ ∷ rest .answers; run = sent (keeps-promise Alone book line) (rest .run) }
 some-run book (batch csd text size ∷ calls) =
     let rest = some-run _ calls in
-    record { answers = _; run = batched (length-replicate {A = ℕ} size 0) (some-batch book csd text (replicate size 0)) (rest .run) }
+    let one = some-batch book csd text (replicate size 0) in
+    record { answers = _; run = batched (length-replicate {A = ℕ} size 0) one (rest .run) }
 
 -- ---- a line that names nobody
 

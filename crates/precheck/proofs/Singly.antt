@@ -1,27 +1,20 @@
 -- A batch and the same lines sent singly, those refused 12 left out; and a batch that is refused 11.
 use Prim.Native.Nat.{ℕ}
 use mathlib.Core.Path.{_≡_, refl, ap, sym, subst, _∙_}
-use mathlib.Core.Bool.{Bool, true, false, cond, not, _||_, false≢true}
+use mathlib.Core.Bool.{true, false, cond, not, _||_, false≢true}
 use mathlib.Core.List.{List, [], _∷_}
 use mathlib.Core.Logic.{⊎-elim}
-use native.Mathlib.Omega.{arith}
-use lib.Dec.{eqb}
-use lib.ListN.{length}
-use borrow.Author.Tests.{eqb-true}
 use Rattle.tables.specs.Count.{keep}
 use Rattle.tables.proofs.Counts.{cases}
-use Rattle.meaning.specs.Batch.{fits, batchResult, batchLines, spaceAfter}
-use Rattle.meaning.specs.Desk.{linesOf}
+use Rattle.meaning.specs.Batch.{batchResult, batchLines, spaceAfter}
 use Rattle.meaning.specs.Reading.{reading}
 use Rattle.meaning.specs.Records as M
 use Rattle.meaning.specs.SameBook.{SameBook}
-use Rattle.meaning.specs.Lone.{told, stepSent, step, names, depository}
-use Rattle.meaning.specs.Printing.{numbersOf}
+use Rattle.meaning.specs.Lone.{stepSent, step, names, depository}
 use Rattle.meaning.specs.declared.Answer.{Answer}
-use Rattle.meaning.specs.declared.Answer.the-variants.{Taken, Refused, Judged}
-use Rattle.meaning.specs.declared.Batch.{Batch}
+use Rattle.meaning.specs.declared.Answer.the-variants.{Taken, Refused}
 use Rattle.meaning.specs.declared.Sent.{Sent}
-use Rattle.meaning.specs.declared.Sent.the-variants.{Alone, InBatch}
+use Rattle.meaning.specs.declared.Sent.the-variants.{InBatch}
 use Rattle.meaning.proofs.HowSent.{AsAlone, Twelve, alone-or-twelve}
 use Rattle.book.specs.Lone.{loneBook}
 use Rattle.book.specs.Sound.{sound}
@@ -75,7 +68,8 @@ twelve-untaken x e f = false≢true (ap isTwelve (sym f) ∙ e)
 
 -- ---- all lines
 
-steps-at : {b n b′ : List ℕ} {ls : List (Sent × List ℕ)} {xs : List Answer} → n ≡ b → Steps n ls xs b′ → Steps b ls xs b′
+steps-at : {b n b′ : List ℕ} {ls : List (Sent × List ℕ)} {xs : List Answer} → n ≡ b → Steps n ls xs b′
+    → Steps b ls xs b′
 steps-at {b′ = b′} {ls = ls} {xs = xs} e t = subst (λ z. Steps z ls xs b′) e t
 
 pub as-singly : AsSingly

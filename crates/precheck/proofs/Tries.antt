@@ -9,7 +9,6 @@ use Rattle.tables.specs.Bytes.{zeros}
 use Rattle.tables.specs.Count.{keep}
 use Rattle.tables.proofs.Zeros.{length-zeros}
 use Rattle.tables.proofs.Lists.{same-length}
-use Rattle.tables.proofs.Counts.{cases}
 use Rattle.meaning.specs.Text.{same}
 use Rattle.meaning.specs.Records as M
 use Rattle.meaning.specs.SameBook.{SameBook}

@@ -1,6 +1,7 @@
--- DEMAND 3: one depository alone. For every list of calls, single lines and batches in any mix, sent one by one to a book
--- just emptied: the answers to the lines that count as depository A's are exactly those of A's lone book, which is fed
--- only these lines and told how each was sent. Stated here, proved in proofs/Alone and proofs/Runs. Assumes nothing.
+-- DEMAND 3: one depository alone. For every list of calls, single lines and batches in any mix, sent one by one to a
+-- book just emptied: the answers to the lines that count as depository A's are exactly those of A's lone book, which is
+-- fed only these lines and told how each was sent. Stated here, proved in proofs/Alone and proofs/Runs. Assumes
+-- nothing.
 use Prim.Native.Nat.{ℕ, _≤_}
 use mathlib.Core.Path.{_≡_}
 use mathlib.Core.Bool.{Bool, cond}
@@ -43,9 +44,9 @@ pub data Run : List ℕ → List Call → List Answer → Type 0 where
   done : {book : List ℕ} → Run book [] []
   sent : {book next line : List ℕ} {answer : Answer} {calls : List Call} {answers : List Answer}
       → Submitted book line answer next → Run next calls answers → Run book (single line ∷ calls) (answer ∷ answers)
-  batched : {book next text space space′ : List ℕ} {csd size : ℕ} {r : Batch} {calls : List Call} {answers : List Answer}
-      → length space ≡ size → (b : Batched book csd text space r next space′) → Run next calls answers
-      → Run book (batch csd text size ∷ calls) (b .answers ++ answers)
+  batched : {book next text space space′ : List ℕ} {csd size : ℕ} {r : Batch} {calls : List Call}
+      {answers : List Answer} → length space ≡ size → (b : Batched book csd text space r next space′)
+      → Run next calls answers → Run book (batch csd text size ∷ calls) (b .answers ++ answers)
 
 -- the answers at the lines that pass a test
 unfoldable pub answersAt : {L : Type 0} → (L → Bool) → List L → List Answer → List Answer
@@ -66,7 +67,8 @@ OneAlone =
 abbrev pub TwoRuns : Type 0
 TwoRuns =
     (lent lent′ emptied emptied′ : List ℕ) → Emptied lent emptied 0 → Emptied lent′ emptied′ 0
-    → (calls calls′ : List Call) (answers answers′ : List Answer) → Run emptied calls answers → Run emptied′ calls′ answers′
+    → (calls calls′ : List Call) (answers answers′ : List Answer)
+    → Run emptied calls answers → Run emptied′ calls′ answers′
     → (a : ℕ) → 1 ≤ a → a ≤ 8
     → keep (counts a) (stood calls) ≡ keep (counts a) (stood calls′)
     → answersAt (counts a) (stood calls) answers ≡ answersAt (counts a) (stood calls′) answers′
@@ -121,7 +123,8 @@ pub record Nobodys (line : List ℕ) : Type 0 where
   pub high : refusal ≤ 5
   pub answered : (how : Sent) (before after : List ℕ) (answer : Answer) → SubmittedAs how before line answer after
       → answer ≡ cond (sound before) (Refused refusal) (Refused 1)
-  pub kept : (how : Sent) (before after : List ℕ) (answer : Answer) → SubmittedAs how before line answer after → after ≡ before
+  pub kept : (how : Sent) (before after : List ℕ) (answer : Answer) → SubmittedAs how before line answer after
+      → after ≡ before
 
 abbrev pub NobodysLine : Type 0
 NobodysLine = (line : List ℕ) → NamesNobody line → Nobodys line

@@ -3,7 +3,7 @@
 -- Assumes nothing.
 use Prim.Native.Nat.{ℕ}
 use mathlib.Core.Path.{_≡_}
-use mathlib.Core.Bool.{Bool, true, false, cond, not}
+use mathlib.Core.Bool.{Bool, false, cond, not}
 use mathlib.Core.List.{List, [], _∷_}
 use lib.Dec.{eqb}
 use lib.ListN.{length}
@@ -19,8 +19,8 @@ use Rattle.meaning.specs.declared.Sent.{Sent}
 use Rattle.meaning.specs.declared.Sent.the-variants.{Alone, InBatch}
 use Rattle.precheck.specs.Promise.{SubmittedAs}
 
--- lines sent one after the other, each told how, with their answers, from one book to another: each step is exactly what
--- is promised of a line sent so. A refused line does not stop the rest.
+-- lines sent one after the other, each told how, with their answers, from one book to another: each step is exactly
+-- what is promised of a line sent so. A refused line does not stop the rest.
 pub data Steps : List ℕ → List (Sent × List ℕ) → List Answer → List ℕ → Type 0 where
   stop : {book : List ℕ} → Steps book [] [] book
   next : {book between line after : List ℕ} {how : Sent} {answer : Answer} {lines : List (Sent × List ℕ)}
