@@ -36,7 +36,8 @@ pub record TakenBy (how : Sent) (t : Bool) (before text out after out′ : List 
 -- answer i, from 0, as printed without byte 10, stands at byte 32 × i, zeros filling its 32 bytes; later space is
 -- untouched
 pub record Placed (answers : List Answer) (before after : List ℕ) : Type 0 where
-  pub stands : (d : Answer) (i : ℕ) → i < length answers → take width (drop (width * i) after) ≡ filled (printed (getD answers i d))
+  pub stands : (d : Answer) (i : ℕ) → i < length answers
+      → take width (drop (width * i) after) ≡ filled (printed (getD answers i d))
   pub later : drop (width * length answers) after ≡ drop (width * length answers) before
 
 -- a batch: the lines that it stands as, over any book
