@@ -2,6 +2,7 @@ pub mod DeskExample
 pub mod Lesson
 pub mod Marked
 pub mod Edges
+pub mod BatchEdges
 pub mod Order
 pub mod Shapes
 pub mod Ranges
