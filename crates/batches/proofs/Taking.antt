@@ -19,7 +19,7 @@ use Rattle.precheck.specs.Batch.{Batched}
 use Rattle.answering.specs.Taking.{bytesBy}
 use Rattle.lines.specs.Many.{answersBy, bookBy}
 use Rattle.lines.proofs.Steps.{submits}
-use Rattle.batches.specs.Taken.{TakenBy, Taken}
+use Rattle.batches.specs.Taken.{TakenBy, TakenIn, Taken}
 use Rattle.batches.proofs.Counting.{counted-fits}
 use Rattle.batches.proofs.Placing.{placed}
 
@@ -49,6 +49,10 @@ all-sized : (how : Sent) (t : Bool) (b : List ℕ) (ls : List (List ℕ)) → le
     → length (spaced (answersBy how t b ls)) ≡ width * length (answersBy how t b ls)
 all-sized how t b ls e = e ∙ ap (λ k. width * k) (sym (answers-length how t b ls))
 
+pub over-any : {csd : ℕ} {b text o b′ o′ : List ℕ} {t : Bool} → TakenBy (InBatch csd) t b text o b′ o′ → t ≡ sound b
+    → TakenIn csd b text o b′ o′
+over-any a e = rw (← e) a
+
 -- premises in the order of the calls, the last one first
 module _ {b : List ℕ} (csd : ℕ) {text o : List ℕ} {n : ℕ} {q : Bool} where
   pub not-taken : q ≡ fits n (length o) → not q ≡ true → n ≡ min (most + 1) (length (linesOf text))
@@ -58,20 +62,20 @@ module _ {b : List ℕ} (csd : ℕ) {text o : List ℕ} {n : ℕ} {q : Bool} whe
       let w = whether text (length o) k e ∙ not-true q f in
       record { result = rw w; book = rw w; answers = rw w; placed = rw w (placed [] o refl) }
 
-  pub all-taken : {t : Bool} {b′ o′ : List ℕ} → TakenBy (InBatch csd) t b text o b′ o′ → t ≡ sound b
+  pub all-taken : {b′ o′ : List ℕ} → TakenIn csd b text o b′ o′
       → q ≡ fits n (length o) → not q ≡ false → n ≡ min (most + 1) (length (linesOf text))
       → Taken b csd text o (Answered n) b′ o′
   unfolding batchResult batchLines
-  all-taken {t = t} a z e f k =
+  all-taken a e f k =
       let w = whether text (length o) k e ∙ not-false q f in
       let lines = linesOf text in
       record {
         result = rw w (ap Answered (counted text (length o) k e f));
-        book = rw (w, ← z) (a .book);
-        answers = rw (w, ← z) (a .answers);
+        book = rw w (a .book);
+        answers = rw w (a .answers);
         placed =
-            rw (w, ← z, a .answers)
-            (placed (answersBy (InBatch csd) t b lines) o (all-sized (InBatch csd) t b lines (a .sized)));
+            rw (w, a .answers)
+            (placed (answersBy (InBatch csd) (sound b) b lines) o (all-sized (InBatch csd) (sound b) b lines (a .sized)));
       }
 
 -- ---- what that means: each line is what is promised of a line in a batch of the depository
@@ -92,7 +96,7 @@ module _ {b : List ℕ} (csd : ℕ) {text o : List ℕ} {n : ℕ} {q : Bool} whe
       → Batched b csd text o (Refused 11) b o
   not-batched e f k = batched b csd text o (Refused 11) b o (not-taken csd e f k)
 
-  pub all-batched : {t : Bool} {b′ o′ : List ℕ} → TakenBy (InBatch csd) t b text o b′ o′ → t ≡ sound b
+  pub all-batched : {b′ o′ : List ℕ} → TakenIn csd b text o b′ o′
       → q ≡ fits n (length o) → not q ≡ false → n ≡ min (most + 1) (length (linesOf text))
       → Batched b csd text o (Answered n) b′ o′
-  all-batched {t} {b′} {o′} a z e f k = batched b csd text o (Answered n) b′ o′ (all-taken csd a z e f k)
+  all-batched {b′} {o′} a e f k = batched b csd text o (Answered n) b′ o′ (all-taken csd a e f k)
