@@ -61,7 +61,12 @@ going-first b t o e = record {
   out-size = refl;
 }
 
-module _ {b₀ t₀ o₀ b t o t₁ : List ℕ} {d : Desk} {n : ℕ} (g : Going b₀ t₀ o₀ b t o d) (h : Behind (d .held) t n t₁) where
+-- what was read behind k bytes, of which the held ones are as many
+module _ {b₀ t₀ o₀ b t o t₁ : List ℕ} {d : Desk} {k n : ℕ} (g : Going b₀ t₀ o₀ b t o d) (read-behind : Behind k t n t₁)
+    (as-held : k ≡ d .held) where
+  h : Behind (d .held) t n t₁
+  h = rw as-held at read-behind
+
   -- no byte came: the end of input
   pub going-end : {d′ : Desk} {b′ t′ : List ℕ} → n ≡ 0 → Reads d n b t₁ d′ b′ t′ → Input b₀ t₀ b′
   going-end {d′} {b′} z i =

@@ -1,5 +1,6 @@
 -- `desk::answer_all` meets its contract. Assumes nothing.
 use Rattle.desk.proofs.Looping.{Going, going-first, going-on, going-end, not-done, not-failed}
+use native.Mathlib.Omega.{arith}
 use borrow.Author.Needs.{needs}
 use Rattle.desk.proofs.answer_all.Statement.{statement}
 use Rattle.desk.proofs.answer_all.Tie as tie
@@ -31,10 +32,20 @@ answer-all-spec =
     (λ c. search needs)
     (λ c. search needs)
     (λ c. search needs)
-    (λ c. search going-end)
+    (λ c e.
+    let answered = c .before .before .before .before .before .before .before .before .before .before in
+    let came = answered .before .before .before .before .before .before .before .before in
+    let at = came .before .before .before in
+    going-end (at .loop .inv) (came .read-behind .ensures) (omega arith) (let none = c .if3 .taken in omega (arith, none))
+    (answered .answer-read .ensures))
     (λ c. search needs)
     (λ c. search needs)
-    (λ c. search (going-on, c .before .if3 .left))
+    (λ c.
+    let answered = c .before .before .before .before .before .before .before .before .before .before .before in
+    let came = answered .before .before .before .before .before .before .before .before in
+    let at = came .before .before .before in
+    going-on (at .loop .inv) (came .read-behind .ensures) (omega arith) (c .before .if3 .left) (answered .answer-read .ensures)
+    (search needs) (search needs) (search needs) (search needs))
     (λ c. search needs)
     (λ c. search needs)
     (λ c. search needs)
