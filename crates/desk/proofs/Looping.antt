@@ -1,5 +1,5 @@
 -- The desk's loop hands an input in pieces to `lines`.
-use Prim.Native.Nat.{ℕ, _+_, _*_, _≤_}
+use Prim.Native.Nat.{ℕ, _+_, _*_, _≤_, _<_}
 use mathlib.Core.Path.{_≡_, refl, sym, ap, _∙_}
 use mathlib.Core.Bool.{cond}
 use mathlib.Core.List.{List, [], _∷_, _++_, append-nil}
@@ -17,7 +17,7 @@ use Rattle.lines.specs.declared.Desk.{Desk}
 use Rattle.lines.specs.declared.Step.{Step}
 use Rattle.lines.proofs.LinesCallers.{has-room}
 use Rattle.lines.proofs.WholeText.{desk-alone}
-use Rattle.desk.specs.Loop.{Behind, Hands, Ends, Input, OneInput}
+use Rattle.desk.specs.Loop.{Behind, Hands, Ends, Reads, Input, OneInput}
 
 pub not-done : {A : Type 0} (s : ℕ) → (s ≡ 48 → ⊥) → s ≡ 48 → A
 not-done s f e = absurd (f e)
@@ -37,6 +37,13 @@ hands {d} {n} {b} {t} {o} {b′} {t′} {o′} {r} p h =
 pub ends : {d : Desk} {b t o b′ o′ : List ℕ} {r : Step} → End d b t o r b′ o′ → 33 * length t ≤ length o → Ends d b t b′
 ends {d} {b} {t} {o} {b′} {o′} {r} e h = record { out = o; out′ = o′; step = r; end = e; room = has-room e (fits (d .held) t o h) }
 
+module _ {d d′ : Desk} {n : ℕ} {b t b′ t′ : List ℕ} where
+  pub reads-piece : 0 < n → Hands d n b t d′ b′ t′ → Reads d n b t d′ b′ t′
+  reads-piece p h = record { piece = λ q. h; end = λ e. absurd (omega arith) }
+
+  pub reads-end : n ≤ 0 → Ends d b t b′ → Reads d n b t d′ b′ t′
+  reads-end z h = record { piece = λ p. absurd (omega arith); end = λ e. h }
+
 -- what is handed from here on goes on with what was handed before
 pub record Going (b₀ t₀ o₀ b t o : List ℕ) (d : Desk) : Type 0 where
   pub on : (pieces : List (List ℕ)) (written after : List ℕ) → Fed d b t pieces written after → Input b₀ t₀ after
@@ -54,18 +61,24 @@ going-first b t o e = record {
   out-size = refl;
 }
 
-module _ {b₀ t₀ o₀ b t o t₁ : List ℕ} {d : Desk} {n : ℕ} (g : Going b₀ t₀ o₀ b t o d) (h : Behind (d .held) t n t₁) where
+-- what was read behind k bytes, of which the held ones are as many
+module _ {b₀ t₀ o₀ b t o t₁ : List ℕ} {d : Desk} {k n : ℕ} (g : Going b₀ t₀ o₀ b t o d) (read-behind : Behind k t n t₁)
+    (as-held : k ≡ d .held) where
+  h : Behind (d .held) t n t₁
+  h = rw as-held at read-behind
+
   -- no byte came: the end of input
-  pub going-end : {b′ : List ℕ} → n ≡ 0 → Ends d b t₁ b′ → Input b₀ t₀ b′
-  going-end {b′} z e =
+  pub going-end : {d′ : Desk} {b′ t′ : List ℕ} → n ≡ 0 → Reads d n b t₁ d′ b′ t′ → Input b₀ t₀ b′
+  going-end {d′} {b′} z i =
+      let e = i .end z in
       g .on [] (take (e .step .written) (e .out′)) b′
       (last (ap (λ k. take k t₁) (add-zero (d .held)) ∙ h .front ∙ sym (append-nil (take (d .held) t))) (e .end) (e .room))
 
   -- the bytes that came are the next piece
-  pub going-on : {d′ : Desk} {b′ t′ o′ : List ℕ} → Hands d n b t₁ d′ b′ t′ → length t₁ ≡ length t → length b′ ≡ length b
-      → length t′ ≡ length t₁
-      → length o′ ≡ length o → Going b₀ t₀ o₀ b′ t′ o′ d′
-  going-on {d′} {b′} {t′} i j x y z =
+  pub going-on : {d′ : Desk} {b′ t′ o′ : List ℕ} → (n ≡ 0 → ⊥) → Reads d n b t₁ d′ b′ t′ → length t₁ ≡ length t
+      → length b′ ≡ length b → length t′ ≡ length t₁ → length o′ ≡ length o → Going b₀ t₀ o₀ b′ t′ o′ d′
+  going-on {d′} {b′} {t′} f q j x y z =
+      let i = q .piece (omega arith) in
       let piece = take n (drop (d .held) t₁) in
       let r = i .step in
       let m : length piece ≡ n = length-take-le n (drop (d .held) t₁) (omega (arith, length-drop (d .held) t₁, h .inside)) in

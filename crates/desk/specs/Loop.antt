@@ -1,5 +1,5 @@
 -- What the desk's loop does with an input: it hands it in pieces to `lines`. Assumes nothing.
-use Prim.Native.Nat.{ℕ, _+_, _≤_}
+use Prim.Native.Nat.{ℕ, _+_, _≤_, _<_}
 use mathlib.Core.Path.{_≡_}
 use mathlib.Core.Bool.{true}
 use mathlib.Core.List.{List}
@@ -30,6 +30,11 @@ pub record Ends (d : Desk) (b t b′ : List ℕ) : Type 0 where
   pub step : Step
   pub end : End d b t out step b′ out′
   pub room : step .room ≡ true
+
+-- what came was handed on; where no byte came, it is the end of input
+pub record Reads (d : Desk) (came : ℕ) (b t : List ℕ) (d′ : Desk) (b′ t′ : List ℕ) : Type 0 where
+  pub piece : 0 < came → Hands d came b t d′ b′ t′
+  pub end : came ≡ 0 → Ends d b t b′
 
 -- the pieces that were read up to the end of input, and what was written: `WholeText.whole` and `desk-alone` of `lines`
 -- speak of these

@@ -13,7 +13,7 @@ use places::SIZE;
 ghost use Prim.Native.Nat.{_*_, _≤_};
 ghost use mathlib.Core.Path.{_≡_};
 ghost use lib.ListN.{length};
-ghost use Rattle.desk.specs.Loop.{Behind, Hands, Ends, Input, OneInput};
+ghost use Rattle.desk.specs.Loop.{Behind, Hands, Ends, Reads, Input, OneInput};
 
 // How the work ended, as a digit for descriptor 3: a program has no status of its own, and ./precheck reads it there.
 const DONE: u8 = b'0';
@@ -139,6 +139,21 @@ fn answer_end(desk: Desk, book: &mut [u8], text: &[u8], out: &mut [u8]) -> u8
     write_out(&out[..written])
 }
 
+// What was read is answered; where no byte came, it is the end of input.
+fn answer_read(desk: Desk, came: usize, book: &mut [u8], text: &mut [u8], out: &mut [u8]) -> Step
+    requires { ⌜ 33 * length (now text) ≤ length (now out) ⌝ }
+    ensures { λ r. ⌜ Reads desk came (now (book .entry)) (now (text .entry)) (r .desk) (now (book .exit)) (now (text .exit)) ⌝ }
+{
+    if came > 0 {
+        return answer_piece(desk, came, book, text, out);
+    }
+    let status = answer_end(desk, book, text, out);
+    Step {
+        desk: desk,
+        status: status,
+    }
+}
+
 // Answers until the end of input or the first failure. A proved loop has to end, so it counts its turns down from a
 // number that no input uses up.
 fn answer_all(fd: i32, name: &[u8], book: &mut [u8], text: &mut [u8], out: &mut [u8]) -> u8
@@ -153,12 +168,12 @@ fn answer_all(fd: i32, name: &[u8], book: &mut [u8], text: &mut [u8], out: &mut 
         if piece.status != DONE {
             return piece.status;
         }
-        if piece.bytes == 0 {
-            return answer_end(desk, book, text, out);
-        }
-        let step = answer_piece(desk, piece.bytes, book, text, out);
+        let step = answer_read(desk, piece.bytes, book, text, out);
         if step.status != DONE {
             return step.status;
+        }
+        if piece.bytes == 0 {
+            return DONE;
         }
         desk = step.desk;
         turns -= 1;

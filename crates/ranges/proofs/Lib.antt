@@ -1,1 +1,2 @@
 pub mod DateReturns
+pub mod ValueReturns

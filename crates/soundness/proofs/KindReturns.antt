@@ -5,6 +5,7 @@ use mathlib.Core.Bool.{Bool, true, false, _&&_, not, and-false}
 use mathlib.Core.List.{List}
 use borrow.Author.Tests.{not-true, not-false}
 use Rattle.tables.specs.Below.{anyBelow}
+use Rattle.tables.proofs.Counts.{both}
 use Rattle.meaning.specs.Forms.{holdsAll, tenValues}
 use Rattle.meaning.specs.Sound.{typeFits, ruleFits, rowFits, periodFits}
 use Rattle.places.specs.Layout.{typeWidth, ruleWidth, rowWidth, periodWidth, typePlaces, rulePlaces}
@@ -14,11 +15,12 @@ use Rattle.chains.specs.Sizes.{buckets, mostPlaces}
 use Rattle.soundness.specs.Reads.{typeRead, ruleRead, rowRead, periodRead, keyHolds}
 use Rattle.soundness.specs.Alike.{typeAlike, ruleAlike, rowAlike, periodAlike}
 use Rattle.soundness.specs.Buckets.{typeBucket, ruleBucket, rowBucket, periodBucket}
-use Rattle.soundness.specs.Kinds.{tableOf, freeAt, bucketAt, alikeAt, fitAt, typedIn, ruledIn, loneAt, ChainedOf, OwnersChained}
+use Rattle.soundness.specs.Kinds.{tableOf, freeAt, bucketAt, alikeAt, fitAt, typedIn, ruledIn, csdAt, loneAt, ChainedOf, RulesChained, OwnersChained}
 use Rattle.soundness.specs.declared.kinds.Kind.{Kind}
 use Rattle.soundness.specs.declared.kinds.Kind.the-variants as Kinds
 use Rattle.soundness.specs.declared.kinds.Table.{Table}
 use Rattle.soundness.proofs.KindFacts.{kind-few}
+use Rattle.soundness.proofs.Walks.{ruled-key}
 
 -- ---- `table_of`
 
@@ -110,32 +112,31 @@ module _ (b : List ℕ) (at : ℕ) where
   unfolding loneAt fitAt
   rule-untyped t g h = rw (sym g ∙ not-true t h, and-false)
 
-  -- a row's key, then its values with its rule
+  -- a row's values with its rule
 
-  row-fit : (f t : Bool) → t ≡ (holdsAll tenValues (rowRead b at .values) && anyBelow (ruledIn b at) rulePlaces)
-      → f ≡ keyHolds b at → fitAt b Kinds.Rows at ≡ (f && t)
+  row-fit : (t : Bool) → t ≡ (holdsAll tenValues (rowRead b at .values) && anyBelow (ruledIn b at) rulePlaces)
+      → fitAt b Kinds.Rows at ≡ (keyHolds b at && t)
   unfolding fitAt rowFits rowOf keyHolds rowRead
-  row-fit f t e g = regrouped (keyHolds b at) (holdsAll tenValues (rowRead b at .values)) (anyBelow (ruledIn b at) rulePlaces) ∙ rw (e, g)
+  row-fit t e = regrouped (keyHolds b at) (holdsAll tenValues (rowRead b at .values)) (anyBelow (ruledIn b at) rulePlaces) ∙ rw e
     where
       regrouped : (k h r : Bool) → ((k && h) && r) ≡ (k && (h && r))
       regrouped true h r = refl
       regrouped false h r = refl
 
-  pub row-lone : (f t : Bool) (k : ℕ) → k ≡ rowBucket (rowRead b at)
+  pub row-lone : (t : Bool) (k : ℕ) (starts links : List ℕ) → k ≡ rowBucket (rowRead b at)
       → t ≡ (holdsAll tenValues (rowRead b at .values) && anyBelow (ruledIn b at) rulePlaces) → not t ≡ false
-      → f ≡ keyHolds b at → not f ≡ false → k ≡ loneAt b Kinds.Rows at
+      → RulesChained b starts links → (csdAt b at ≡ 0 → ⊥) → k ≡ loneAt b Kinds.Rows at
   unfolding loneAt bucketAt
-  row-lone f t k e g h i j = rw (row-fit f t g i, not-false f j, not-false t h) e
+  row-lone t k starts links e g h m u =
+      let y : t ≡ true = not-false t h in
+      let z = both (holdsAll tenValues (rowRead b at .values)) (anyBelow (ruledIn b at) rulePlaces) (sym g ∙ y) in
+      rw (row-fit t g, ruled-key b at (m .right) u (z .1), y) e
 
-  pub row-unfit : (f : Bool) → f ≡ keyHolds b at → not f ≡ true → buckets ≡ loneAt b Kinds.Rows at
-  unfolding loneAt
-  row-unfit f g h = rw (row-fit f _ refl g, not-true f h)
-
-  pub row-unruled : (f t : Bool)
+  pub row-unruled : (t : Bool)
       → t ≡ (holdsAll tenValues (rowRead b at .values) && anyBelow (ruledIn b at) rulePlaces) → not t ≡ true
-      → f ≡ keyHolds b at → buckets ≡ loneAt b Kinds.Rows at
+      → buckets ≡ loneAt b Kinds.Rows at
   unfolding loneAt
-  row-unruled f t g h i = rw (row-fit f t g i, not-true t h, and-false)
+  row-unruled t g h = rw (row-fit t g, not-true t h, and-false)
 
   pub period-lone : (f : Bool) (k : ℕ) → k ≡ periodBucket (periodRead b at)
       → f ≡ periodFits (periodOf (periodRead b at)) → f ≡ true → k ≡ loneAt b Kinds.Periods at
@@ -157,5 +158,5 @@ module _ (b : List ℕ) (at : ℕ) where
   rules-owners kind starts links m e = rw e at m
 
   pub rows-owners : (kind : Kind) (starts links : List ℕ) → OwnersChained b kind starts links → kind ≡ Kinds.Rows
-      → ChainedOf b Kinds.Rules starts links rulePlaces
+      → RulesChained b starts links
   rows-owners kind starts links m e = rw e at m

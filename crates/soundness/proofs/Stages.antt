@@ -7,10 +7,11 @@ use lib.Dec.{eqb}
 use lib.ListN.{length}
 use borrow.Author.Tests.{eq-eqb, not-true, not-false}
 use Rattle.tables.specs.Count.{allBelow}
+use Rattle.tables.proofs.Counts.{both}
 use Rattle.places.specs.Layout.{bookSize, typePlaces, rulePlaces, rowPlaces, periodPlaces}
 use Rattle.book.specs.Sound.{sound}
 use Rattle.chains.specs.Chains.{AllPassed}
-use Rattle.soundness.specs.Kinds.{csdOf, bucketOf, rightOf, ChainedOf, rulesSound, rowsSound, RulesSound}
+use Rattle.soundness.specs.Kinds.{csdOf, bucketOf, rightOf, ChainedOf, RulesChained, rulesSound, rowsSound, RulesSound}
 use Rattle.soundness.specs.declared.kinds.Kind.the-variants as Kinds
 use Rattle.soundness.proofs.Decided.{decided}
 use Rattle.soundness.proofs.WholeTable.{types-whole, rules-whole, rows-whole, periods-whole}
@@ -23,8 +24,12 @@ pub types-chained : (b : List ℕ) (t : Bool) (head next : List ℕ)
 types-chained b t head next m f = m .chained (not-false t f)
 
 pub rules-chained : (b : List ℕ) (t : Bool) (head next : List ℕ) → RulesSound b t head next → not t ≡ false
-    → ChainedOf b Kinds.Rules head next rulePlaces
-rules-chained b t head next m f = m .chained (not-false t f)
+    → RulesChained b head next
+unfolding rulesSound
+rules-chained b t head next m f = record {
+  right = both (allBelow (rightOf b Kinds.Types) typePlaces) (allBelow (rightOf b Kinds.Rules) rulePlaces) (sym (m .answered) ∙ not-false t f) .1;
+  chained = m .chained (not-false t f);
+}
 
 -- ---- types and rules
 

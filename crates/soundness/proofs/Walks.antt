@@ -2,17 +2,19 @@
 -- chain exactly if the table has them.
 use Prim.Native.Nat.{ℕ, zero, suc, _+_, _*_, _-_, _≤_, _<_, _^_}
 use mathlib.Core.Path.{_≡_, sym, ap, _∙_}
-use mathlib.Core.Bool.{Bool, true, false, _&&_}
+use mathlib.Core.Bool.{Bool, true, false, _&&_, false≢true}
 use mathlib.Core.List.{List, [], _∷_}
 use native.Mathlib.Omega.{arith}
 use native.Mathlib.Nat.{pow-succ'}
 use lib.ListN.{length, getD}
 use borrow.Author.Tests.{eqb-true, eq-eqb, ne-eqb}
+use Rattle.tables.specs.Count.{allBelow}
 use Rattle.tables.specs.Below.{anyBelow}
-use Rattle.tables.proofs.Counts.{cases, cases-eq, ands}
-use Rattle.meaning.specs.Forms.{holdsAll, tenValues}
+use Rattle.tables.proofs.Counts.{cases, cases-eq, ands, all-at}
+use Rattle.tables.proofs.Below.{any-never}
+use Rattle.meaning.specs.Forms.{holds, holdsAll, tenValues, sequenceForm}
 use Rattle.meaning.specs.Keys.{isType, isRule, filled}
-use Rattle.meaning.specs.Sound.{fillsRule}
+use Rattle.meaning.specs.Sound.{keyFits, ruleFits, fillsRule}
 use Rattle.places.specs.Layout.{typeStart, typePlaces, ruleStart, rulePlaces}
 use Rattle.places.specs.declared.RestrictionType.{RestrictionType}
 use Rattle.places.specs.declared.Rule.{Rule}
@@ -20,16 +22,16 @@ use Rattle.places.specs.declared.Row.{Row}
 use Rattle.records.specs.Said.{typeOf, ruleOf, rowOf}
 use Rattle.records.specs.Asks.{typeMeets, ruleMeets}
 use Rattle.chains.specs.Sizes.{buckets}
-use Rattle.chains.specs.Chains.{inBucket, Walking}
+use Rattle.chains.specs.Chains.{inBucket, Walking, right}
 use Rattle.chains.proofs.Chaining.{walk-start, walk-on, walk-found, walk-end}
-use Rattle.soundness.specs.Reads.{typeRead, ruleRead, rowRead}
+use Rattle.soundness.specs.Reads.{typeRead, ruleRead, rowRead, keyHolds}
 use Rattle.soundness.specs.Alike.{typedBy, ruledBy, noCriteria, filledOr}
 use Rattle.soundness.specs.Buckets.{typeBucket, typeBucketOf, ruleBucket, ruleBucketOf}
-use Rattle.soundness.specs.Kinds.{tableOf, addressOf, PlaceOf, alikeAt, csdAt, bucketAt, csdOf, bucketOf, sameOf, typedIn, ruledIn, ChainedOf}
+use Rattle.soundness.specs.Kinds.{tableOf, addressOf, PlaceOf, alikeAt, csdAt, bucketAt, fitAt, csdOf, freeOf, bucketOf, sameOf, fitOf, rightOf, typedIn, ruledIn, ChainedOf}
 use Rattle.soundness.specs.declared.kinds.Kind.{Kind}
 use Rattle.soundness.specs.declared.kinds.Kind.the-variants as Kinds
 use Rattle.soundness.specs.declared.kinds.Table.{Table}
-use Rattle.soundness.proofs.KindFacts.{kind-few, kind-wide, kind-within, kind-inside, kind-only}
+use Rattle.soundness.proofs.KindFacts.{kind-few, kind-wide, kind-within, kind-nobody, kind-inside, kind-only}
 
 -- An owner has its record's depository and is in the bucket that is looked through.
 
@@ -148,6 +150,41 @@ module _ (b : List ℕ) (at : ℕ) where
   ruled-end n j w h c u =
       rw (values-fit n c u)
       (walk-end (csdOf b Kinds.Rules) (bucketOf b Kinds.Rules) (ruleBucketOf (rowRead b at)) (ruledIn b at) rulePlaces j w h)
+
+  -- a rule that is right has its key in its range, so its rows have
+
+  row-key : (r : Rule) → ruledBy (rowRead b at) r ≡ true → ruleFits (ruleOf r) ≡ true → keyHolds b at ≡ true
+  unfolding ruledBy ruleMeets fillsRule isRule ruleOf rowOf ruleFits keyHolds rowRead
+  row-key r e f =
+      let y = eqb-true (r .number) (rowRead b at .number) (search ands) in
+      let z = eqb-true (r .object) (rowRead b at .object) (search ands) in
+      let s = eqb-true (r .sequence) (rowRead b at .sequence) (search ands) in
+      let k : (keyFits (r .number) (r .object) && holds sequenceForm (r .sequence)) ≡ true = search ands in
+      rw (y, z, s) at k
+
+  rule-right : (j : ℕ) → (csdAt b at ≡ 0 → ⊥) → ruledIn b at j ≡ true → rightOf b Kinds.Rules j ≡ true
+      → keyHolds b at ≡ true
+  unfolding rightOf right freeOf fitOf fitAt csdAt csdOf ruledIn rowRead ruleRead
+  rule-right j u e f =
+      let x = ruled-by (rowRead b at) (ruleRead b (ruleStart j)) e in
+      let t : freeOf b Kinds.Rules j ≡ false =
+      cases (freeOf b Kinds.Rules j) (λ z. absurd (u (sym (x .0) ∙ kind-nobody b Kinds.Rules (addressOf Kinds.Rules j) z))) (λ z. z) in
+      let g = rw t at f in
+      row-key (ruleRead b (ruleStart j)) e (search ands)
+
+  pub ruled-key : allBelow (rightOf b Kinds.Rules) rulePlaces ≡ true → (csdAt b at ≡ 0 → ⊥)
+      → anyBelow (ruledIn b at) rulePlaces ≡ true → keyHolds b at ≡ true
+  ruled-key f u e =
+      cases (keyHolds b at) (λ t. t)
+      (λ t.
+      absurd
+      (false≢true
+      (sym (any-never (ruledIn b at) rulePlaces
+      (λ j l.
+      cases (ruledIn b at j)
+      (λ y. absurd (false≢true (sym t ∙ rule-right j u y (all-at (rightOf b Kinds.Rules) rulePlaces f j l))))
+      (λ y. y)))
+      ∙ e)))
 
 -- ---- a record that cannot stand beside that of place i
 

@@ -137,12 +137,17 @@ module _ (b : List ℕ) where
   abbrev pub ChainedOf : Kind → List ℕ → List ℕ → ℕ → Type 0
   ChainedOf kind = Chained (csdOf kind) (bucketOf kind)
 
-  -- the chains of the table in which a record's owner is looked for, where it has one
-  abbrev pub OwnersChained : Kind → List ℕ → List ℕ → Type 0
-  OwnersChained Kinds.Types starts links = Unit {0}
-  OwnersChained Kinds.Rules starts links = ChainedOf Kinds.Types starts links typePlaces
-  OwnersChained Kinds.Rows starts links = ChainedOf Kinds.Rules starts links rulePlaces
-  OwnersChained Kinds.Periods starts links = Unit {0}
+-- the rules, each of them right, in chains
+pub record RulesChained (b starts links : List ℕ) : Type 0 where
+  pub right : allBelow (rightOf b Kinds.Rules) rulePlaces ≡ true
+  pub chained : ChainedOf b Kinds.Rules starts links rulePlaces
+
+-- the chains of the table in which a record's owner is looked for, where it has one
+abbrev pub OwnersChained : List ℕ → Kind → List ℕ → List ℕ → Type 0
+OwnersChained b Kinds.Types starts links = Unit {0}
+OwnersChained b Kinds.Rules starts links = ChainedOf b Kinds.Types starts links typePlaces
+OwnersChained b Kinds.Rows starts links = RulesChained b starts links
+OwnersChained b Kinds.Periods starts links = Unit {0}
 
 -- place i of the table t, in a book of the exact size
 pub record PlaceOf (b : List ℕ) (t : Table) (i : ℕ) : Type 0 where

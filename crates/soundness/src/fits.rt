@@ -49,8 +49,8 @@ pub(crate) fn type_fits(b: &[u8], at: usize) -> bool
     and(key_fits(one(b, at, 1), object), and(and(known, held), days))
 }
 
-// The key of a rule, which stands first in rules and in rows.
-pub(crate) fn rule_key_fits(b: &[u8], at: usize) -> bool
+// The key of a rule.
+fn rule_key_fits(b: &[u8], at: usize) -> bool
     requires { ⌜ at + 4 ≤ length (now b) ⌝ }
     ensures { λ r. ⌜ r ≡ keyHolds (now (b .entry)) at ⌝ }
 {

@@ -12,7 +12,6 @@ use crate::fits::NO_CRITERIA;
 use crate::fits::filled;
 use crate::fits::period_fits;
 use crate::fits::rule_fits;
-use crate::fits::rule_key_fits;
 use crate::fits::type_fits;
 use crate::kinds::Kind;
 use chains::BUCKETS;
@@ -27,7 +26,7 @@ ghost use Rattle.tables.specs.Below.{anyBelow};
 ghost use Rattle.meaning.specs.Forms.{holdsAll, tenValues};
 ghost use Rattle.places.specs.Layout.{bookSize, typeWidth, ruleWidth, rowWidth, periodWidth, typePlaces, rulePlaces};
 ghost use Rattle.soundness.specs.Reads.{rowRead};
-ghost use Rattle.soundness.specs.Kinds.{tableOf, csdAt, typedIn, ruledIn, loneAt, ChainedOf, OwnersChained};
+ghost use Rattle.soundness.specs.Kinds.{tableOf, csdAt, typedIn, ruledIn, loneAt, ChainedOf, RulesChained, OwnersChained};
 
 // Whether a rule has its type.
 fn typed(b: &[u8], at: usize, starts: &[u16], links: &[u16]) -> bool
@@ -100,16 +99,14 @@ fn lone_rule(b: &[u8], at: usize, starts: &[u16], links: &[u16]) -> usize
     rule_bucket(b, at)
 }
 
+// A row's key is in its range, since it is that of a rule which is right.
 fn lone_row(b: &[u8], at: usize, starts: &[u16], links: &[u16]) -> usize
     requires { ⌜ length (now b) ≡ bookSize ⌝ }
     requires { ⌜ at + rowWidth ≤ length (now b) ⌝ }
     requires { ⌜ (csdAt (now b) at ≡ 0 → ⊥) ⌝ }
-    requires { ⌜ ChainedOf (now b) Kind.Rules (now starts) (now links) rulePlaces ⌝ }
+    requires { ⌜ RulesChained (now b) (now starts) (now links) ⌝ }
     ensures { λ r. ⌜ r ≡ loneAt (now (b .entry)) Kind.Rows at ⌝ }
 {
-    if !rule_key_fits(b, at) {
-        return BUCKETS;
-    }
     if !ruled(b, at, starts, links) {
         return BUCKETS;
     }

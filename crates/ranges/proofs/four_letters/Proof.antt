@@ -1,5 +1,6 @@
 -- `ranges::four_letters` meets its contract. Assumes nothing.
 use borrow.Author.Needs.{needs}
+use Rattle.ranges.proofs.ValueReturns.{four-said}
 use Rattle.ranges.proofs.four_letters.Statement.{statement}
 use Rattle.ranges.proofs.four_letters.Tie as tie
 
@@ -10,4 +11,4 @@ four-letters-spec =
     (λ c κs. search needs)
     (λ c κs. search needs)
     (λ c κs. search needs)
-    (λ c. cc))
+    (λ c. search four-said))

@@ -1,5 +1,6 @@
 -- `ranges::three_letters` meets its contract. Assumes nothing.
 use borrow.Author.Needs.{needs}
+use Rattle.ranges.proofs.ValueReturns.{three-said}
 use Rattle.ranges.proofs.three_letters.Statement.{statement}
 use Rattle.ranges.proofs.three_letters.Tie as tie
 
@@ -13,4 +14,4 @@ three-letters-spec =
     (λ c κs. search needs)
     (λ c κs. search needs)
     (λ c κs. search needs)
-    (λ c. cc))
+    (λ c. search three-said))
