@@ -37,7 +37,10 @@ pub record Stepped (b : List ℕ) (calls : List Call) (xs : List Answer) : Type 
 pub run-steps : {b : List ℕ} {calls : List Call} {xs : List Answer} → Run b calls xs → Stepped b calls xs
 unfolding stood stands
 run-steps (done {book = b}) = record { after = b; steps = stop }
-run-steps (sent t r) = let i = run-steps r in record { after = i .after; steps = next t (i .steps) }
+run-steps (sent {next = n} {calls = calls} {answers = xs} t r) =
+    let i = run-steps r in
+    let rest : Steps n (stood calls) xs (i .after) = i .steps in
+    record { after = i .after; steps = next t rest }
 run-steps (batched {book = b} {next = n} {text = text} {csd = csd} e t r) =
     let i = run-steps r in
     let first = subst (λ z. Steps b (told (InBatch csd) (batchLines text z)) (t .answers) n) e (t .taken) in
@@ -114,6 +117,7 @@ lone-from a ls = refl
 
 -- Demand 3.
 pub one-alone : OneAlone
+unfolding answersAt stood
 one-alone lent book e calls as′ r a low high =
     let own = same-books (emptied-lone lent book e a low) in
     from a low high (run-steps r .steps) M.empty (emptied-sound lent book e) own .answered ∙ lone-from a (stood calls)
