@@ -19,7 +19,7 @@ use Rattle.precheck.specs.Batch.{Batched}
 use Rattle.answering.specs.Taking.{bytesBy}
 use Rattle.lines.specs.Many.{answersBy, bookBy}
 use Rattle.lines.proofs.Steps.{submits}
-use Rattle.batches.specs.Taken.{TakenBy, Taken}
+use Rattle.batches.specs.Taken.{TakenBy, TakenIn, Taken}
 use Rattle.batches.proofs.Counting.{counted-fits}
 use Rattle.batches.proofs.Placing.{placed}
 
@@ -30,13 +30,14 @@ module _ (text : List ℕ) {n : ℕ} (m : ℕ) {q : Bool} (k : n ≡ min (most +
   pub room-for-all : not q ≡ false → width * length (linesOf text) ≤ m
   unfolding fits
   room-for-all f =
-      leb-true (width * length (linesOf text)) m
-      (both (leb (length (linesOf text)) most) (leb (width * length (linesOf text)) m) (whether ∙ not-false q f) .1)
+      let l = length (linesOf text) in
+      leb-true (width * l) m (both (leb l most) (leb (width * l) m) (whether ∙ not-false q f) .1)
 
   counted : not q ≡ false → n ≡ length (linesOf text)
   unfolding fits
   counted f =
-      let h = leb-true (length (linesOf text)) most (both (leb (length (linesOf text)) most) (leb (width * length (linesOf text)) m) (whether ∙ not-false q f) .0) in
+      let l = length (linesOf text) in
+      let h = leb-true l most (both (leb l most) (leb (width * l) m) (whether ∙ not-false q f) .0) in
       omega arith
 
 answers-length : (how : Sent) (t : Bool) (b : List ℕ) (ls : List (List ℕ)) → length (answersBy how t b ls) ≡ length ls
@@ -48,27 +49,38 @@ all-sized : (how : Sent) (t : Bool) (b : List ℕ) (ls : List (List ℕ)) → le
     → length (spaced (answersBy how t b ls)) ≡ width * length (answersBy how t b ls)
 all-sized how t b ls e = e ∙ ap (λ k. width * k) (sym (answers-length how t b ls))
 
-module _ {b : List ℕ} (csd : ℕ) {text o : List ℕ} {n : ℕ} {q : Bool} (k : n ≡ min (most + 1) (length (linesOf text))) (e : q ≡ fits n (length o)) where
-  pub not-taken : not q ≡ true → Taken b csd text o (Refused 11) b o
+pub over-any : {csd : ℕ} {b text o b′ o′ : List ℕ} {t : Bool} → TakenBy (InBatch csd) t b text o b′ o′ → t ≡ sound b
+    → TakenIn csd b text o b′ o′
+over-any a e = rw (← e) a
+
+-- premises in the order of the calls, the last one first
+module _ {b : List ℕ} (csd : ℕ) {text o : List ℕ} {n : ℕ} {q : Bool} where
+  pub not-taken : q ≡ fits n (length o) → not q ≡ true → n ≡ min (most + 1) (length (linesOf text))
+      → Taken b csd text o (Refused 11) b o
   unfolding batchResult batchLines bookBy answersBy spaced spaceAfter
-  not-taken f =
+  not-taken e f k =
       let w = whether text (length o) k e ∙ not-true q f in
       record { result = rw w; book = rw w; answers = rw w; placed = rw w (placed [] o refl) }
 
-  pub all-taken : {t : Bool} {b′ o′ : List ℕ} → not q ≡ false → t ≡ sound b → TakenBy (InBatch csd) t b text o b′ o′ → Taken b csd text o (Answered n) b′ o′
+  pub all-taken : {b′ o′ : List ℕ} → TakenIn csd b text o b′ o′
+      → q ≡ fits n (length o) → not q ≡ false → n ≡ min (most + 1) (length (linesOf text))
+      → Taken b csd text o (Answered n) b′ o′
   unfolding batchResult batchLines
-  all-taken {t = t} f z a =
+  all-taken a e f k =
       let w = whether text (length o) k e ∙ not-false q f in
+      let lines = linesOf text in
       record {
         result = rw w (ap Answered (counted text (length o) k e f));
-        book = rw (w, ← z) (a .book);
-        answers = rw (w, ← z) (a .answers);
-        placed = rw (w, ← z, a .answers) (placed (answersBy (InBatch csd) t b (linesOf text)) o (all-sized (InBatch csd) t b (linesOf text) (a .sized)));
+        book = rw w (a .book);
+        answers = rw w (a .answers);
+        placed =
+            rw (w, a .answers)
+            (placed (answersBy (InBatch csd) (sound b) b lines) o (all-sized (InBatch csd) (sound b) b lines (a .sized)));
       }
 
 -- ---- what that means: each line is what is promised of a line in a batch of the depository
 
-pub batched : (b : List ℕ) (csd : ℕ) (text o : List ℕ) (r : Batch) (b′ o′ : List ℕ) → Taken b csd text o r b′ o′
+batched : (b : List ℕ) (csd : ℕ) (text o : List ℕ) (r : Batch) (b′ o′ : List ℕ) → Taken b csd text o r b′ o′
     → Batched b csd text o r b′ o′
 batched b csd text o r b′ o′ t =
     let lines = batchLines text (length o) in
@@ -79,10 +91,12 @@ batched b csd text o r b′ o′ t =
       written = t .answers;
     }
 
-module _ {b : List ℕ} (csd : ℕ) {text o : List ℕ} {n : ℕ} {q : Bool} (k : n ≡ min (most + 1) (length (linesOf text))) (e : q ≡ fits n (length o)) where
-  pub not-batched : not q ≡ true → Batched b csd text o (Refused 11) b o
-  not-batched f = batched b csd text o (Refused 11) b o (not-taken csd k e f)
+module _ {b : List ℕ} (csd : ℕ) {text o : List ℕ} {n : ℕ} {q : Bool} where
+  pub not-batched : q ≡ fits n (length o) → not q ≡ true → n ≡ min (most + 1) (length (linesOf text))
+      → Batched b csd text o (Refused 11) b o
+  not-batched e f k = batched b csd text o (Refused 11) b o (not-taken csd e f k)
 
-  pub all-batched : {t : Bool} {b′ o′ : List ℕ} → not q ≡ false → t ≡ sound b → TakenBy (InBatch csd) t b text o b′ o′
+  pub all-batched : {b′ o′ : List ℕ} → TakenIn csd b text o b′ o′
+      → q ≡ fits n (length o) → not q ≡ false → n ≡ min (most + 1) (length (linesOf text))
       → Batched b csd text o (Answered n) b′ o′
-  all-batched {t} {b′} {o′} f z a = batched b csd text o (Answered n) b′ o′ (all-taken csd k e f z a)
+  all-batched {b′} {o′} a e f k = batched b csd text o (Answered n) b′ o′ (all-taken csd a e f k)

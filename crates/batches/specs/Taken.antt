@@ -33,10 +33,15 @@ pub record TakenBy (how : Sent) (t : Bool) (before text out after out′ : List 
   pub answers : out′ ≡ spaceAfter (answersBy how t before (linesOf text)) out
   pub sized : length (spaced (answersBy how t before (linesOf text))) ≡ width * length (linesOf text)
 
+-- in a batch of a depository, over any book
+abbrev pub TakenIn : ℕ → List ℕ → List ℕ → List ℕ → List ℕ → List ℕ → Type 0
+TakenIn csd before text out after out′ = TakenBy (InBatch csd) (sound before) before text out after out′
+
 -- answer i, from 0, as printed without byte 10, stands at byte 32 × i, zeros filling its 32 bytes; later space is
 -- untouched
 pub record Placed (answers : List Answer) (before after : List ℕ) : Type 0 where
-  pub stands : (d : Answer) (i : ℕ) → i < length answers → take width (drop (width * i) after) ≡ filled (printed (getD answers i d))
+  pub stands : (d : Answer) (i : ℕ) → i < length answers
+      → take width (drop (width * i) after) ≡ filled (printed (getD answers i d))
   pub later : drop (width * length answers) after ≡ drop (width * length answers) before
 
 -- a batch: the lines that it stands as, over any book

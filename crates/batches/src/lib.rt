@@ -6,7 +6,7 @@ ghost use lib.ListN.{length};
 ghost use Rattle.meaning.specs.Desk.{linesOf};
 ghost use Rattle.meaning.specs.Batch.{width, most, fits};
 ghost use Rattle.precheck.specs.Batch.{Batched};
-ghost use Rattle.batches.specs.Taken.{Put, Turn, TakenBy, Taken};
+ghost use Rattle.batches.specs.Taken.{Put, Turn, TakenBy, TakenIn, Taken};
 use answering::answer;
 use meaning::Answer;
 use meaning::Batch;
@@ -62,8 +62,8 @@ fn put_answer(out: &mut [u8], at: usize, a: Answer)
     }
 }
 
-// Answers a line, sent so, over a book that was found to be sound, or not to be, writes the answer to an index and returns where
-// the next one goes.
+// Answers a line, sent so, over a book that was found to be sound, or not to be, writes the answer to an index and
+// returns where the next one goes.
 fn answer_line(
     book: &mut [u8],
     line: &[u8],
@@ -80,8 +80,8 @@ fn answer_line(
     at + WIDTH
 }
 
-// Answers the lines of a text, each sent so, one by one over a book that was found to be sound, or not to be, whatever the answers to
-// the lines before.
+// Answers the lines of a text, each sent so, one by one over a book that was found to be sound, or not to be, whatever
+// the answers to the lines before.
 fn answer_each(book: &mut [u8], text: &[u8], sound: bool, sent: Sent, out: &mut [u8])
     requires { ⌜ width * length (linesOf (now text)) ≤ length (now out) ⌝ }
     ensures { λ _. ⌜ TakenBy sent sound (now (book .entry)) (now (text .entry)) (now (out .entry)) (now (book .exit)) (now (out .exit)) ⌝ }
@@ -96,10 +96,19 @@ fn answer_each(book: &mut [u8], text: &[u8], sound: bool, sent: Sent, out: &mut 
     }
 }
 
+// Answers the lines of a batch of a depository. Whether the book is sound is found once: an accepted edit leaves it
+// sound.
+fn answer_batch(book: &mut [u8], csd: u8, text: &[u8], out: &mut [u8])
+    requires { ⌜ width * length (linesOf (now text)) ≤ length (now out) ⌝ }
+    ensures { λ _. ⌜ TakenIn csd (now (book .entry)) (now (text .entry)) (now (out .entry)) (now (book .exit)) (now (out .exit)) ⌝ }
+{
+    let sound = is_sound(book);
+    answer_each(book, text, sound, Sent::InBatch(csd), out)
+}
+
 // A batch of a depository: the lines of a text, parted as at the desk, are answered in order, each as if it was sent
-// alone but for 12, and answer i stands in the answer space at byte 32 * i. Over 64 lines, or under 32 bytes a line, get
-// 11 before anything else, and then nothing is taken or written. Whether the book is sound is found once: an accepted
-// edit leaves it sound.
+// alone but for 12, and answer i stands in the answer space at byte 32 * i. Over 64 lines, or an answer space under 32
+// bytes a line, gets 11 before anything else, and then nothing is taken or written.
 pub fn submit_batch(book: &mut [u8], csd: u8, text: &[u8], answers: &mut [u8]) -> Batch
     ensures exactly { λ r. ⌜ Taken (now (book .entry)) csd (now (text .entry)) (now (answers .entry)) r (now (book .exit)) (now (answers .exit)) ⌝ }
     ensures meaning { λ r. ⌜ Batched (now (book .entry)) csd (now (text .entry)) (now (answers .entry)) r (now (book .exit)) (now (answers .exit)) ⌝ }
@@ -108,7 +117,6 @@ pub fn submit_batch(book: &mut [u8], csd: u8, text: &[u8], answers: &mut [u8]) -
     if !has_room(n, answers) {
         return Batch::Refused(11);
     }
-    let sound = is_sound(book);
-    answer_each(book, text, sound, Sent::InBatch(csd), answers);
+    answer_batch(book, csd, text, answers);
     Batch::Answered(n)
 }

@@ -25,7 +25,7 @@ answer-each-spec =
     (λ c. search needs)
     (λ c. search line-inside)
     (λ c κs. search room-for)
-    (λ c. search comes-nearer)
+    (λ c. search (comes-nearer, needs))
     (λ c. search going-on)
     (λ c. search needs)
     (λ c. search needs)

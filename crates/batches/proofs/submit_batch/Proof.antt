@@ -12,7 +12,6 @@ submit-batch-spec =
     (λ c κs. search needs)
     (λ c. search needs)
     (λ c. search (not-taken, not-batched))
-    (λ c κs. search needs)
     (λ c κs. search room-for-all)
     (λ c. search needs)
     (λ c. search needs)
