@@ -12,8 +12,8 @@ Kinds of lines and their share:
      1 %  noise: 1 to 100 bytes of any value but 10
      2 %  allowed bytes only, stretched to 79, 80, 81 or 82 bytes, or now and then to as many as 5,000
      1 %  an empty line
-One file in three lacks the final byte 10. Each stretch of 400 lines has a profile. Half of the stretches are mixed: two of
-the eight depositories get three quarters of the lines, all eight share the rest. The other half fill one of the four
+One file in three lacks the final byte 10. Each stretch of 400 lines has a profile. Half of the stretches are mixed: two
+of the eight depositories get three quarters of the lines, all eight share the rest. The other half fill one of the four
 quotas of a single depository, which gets 95 % of the lines, so that refusal 10 occurs.
 """
 import random

@@ -1,7 +1,7 @@
 #!/usr/bin/env python3
-"""Writes what the gate runs crates/calls on: args, data/ and stdout. Each file of vectors/requests/LANDED is answered over
-a book of its own, and so is the batch of docs/LINES.md (examples.in). LANDED is the last request that has landed: its
-folder has the answers of all requests up to it."""
+"""Writes what the gate runs crates/calls on: args, data/ and stdout. Each file of vectors/requests/LANDED is answered
+over a book of its own, and so is the batch of docs/LINES.md (examples.in). LANDED is the last request that has landed:
+its folder has the answers of all requests up to it."""
 import os
 from examples import BATCH_CSD, batch
 from output import plain

@@ -1,6 +1,6 @@
 #!/usr/bin/env python3
-"""Writes crates/meaning/proofs/Lesson.antt: the lines of docs/lesson.lines and the answers of docs/lesson.answers as one
-statement of the meaning. docs/LESSON.md shows exactly these."""
+"""Writes crates/meaning/proofs/Lesson.antt: the lines of docs/lesson.lines and the answers of docs/lesson.answers as
+one statement of the meaning. docs/LESSON.md shows exactly these."""
 import re
 from output import noted
 

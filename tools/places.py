@@ -96,7 +96,8 @@ for s, n, places, quota, fields, nums, size, at0 in layout:
     spec += f"\nabbrev pub zero{N} : {s}\nzero{N} = record {{ " + "; ".join(f"{f} = replicate {len(w)} 0" if isinstance(w, list) else f"{f} = 0" for f, w in fields) + " }\n"
 write(f"{C}/specs/Layout.antt", spec)
 
-# ---- reading: what the calls return is the record. A law over plain values, so that a wrong reading is refused for certain
+# ---- reading: what the calls return is the record. A law over plain values, so that a wrong reading is refused for
+# certain
 law = """-- What the calls of a reading return, taken together, is the record.
 use Prim.Native.Nat.{ℕ}
 use mathlib.Core.Path.{_≡_}

@@ -8,7 +8,8 @@ for name in ("paper-example", "marked"):
     lines += open(f"vectors/{name}.in").read().split("\n")[:-1]
     answers += open(f"vectors/{name}.out").read().split("\n")[:-1]
 
-# A party hold, type 9: rule 5 holds FREE, the broader rule 7 holds DELI. docs/LESSON.md says why each answer is as it is.
+# A party hold, type 9: rule 5 holds FREE, the broader rule 7 holds DELI. docs/LESSON.md says why each answer is as it
+# is.
 DAYS = "20170207,20991231"
 RULE5 = ["R,{c},20170206,9,1,5,P,4," + DAYS, "M,{c},20170206,9,1,5,,,FREE,,,,,,,"]
 RULE9 = [l.replace("9,1,5,", "9,1,9,") for l in RULE5]

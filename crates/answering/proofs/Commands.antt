@@ -34,7 +34,7 @@ use Rattle.edits.proofs.Stay.{sound-lone, edit-left}
 use Rattle.edits.proofs.Does.{edit-meant}
 use Rattle.judge.specs.Stages.{judgedBy}
 use Rattle.judge.proofs.VerdictRight.{judged-right}
-use Rattle.answering.specs.Taking.{refusalOf, repliedTo, replyTo, answerOf, bytesAfter, Ready, Meant, Took}
+use Rattle.answering.specs.Taking.{refusalOf, repliedTo, replyTo, answerOf, bytesAfter, Ready, Took}
 
 -- the code's test for a line of another depository than its batch
 pub elsewhere-alone : (s : Sent) (r : Bool) (csd : ℕ) → s ≡ Alone → r ≡ false → r ≡ elsewhere s csd

@@ -41,8 +41,8 @@ fn is_elsewhere(sent: Sent, csd: u8) -> bool
     }
 }
 
-// The answer to a line, sent alone or in a batch, over a lent book that was found to be sound, or not to be; an accepted
-// edit is stored in it.
+// The answer to a line, sent alone or in a batch, over a lent book that was found to be sound, or not to be; an
+// accepted edit is stored in it.
 pub fn answer(book: &mut [u8], line: &[u8], sound: bool, sent: Sent) -> Answer
     ensures { λ r. ⌜ Answers sent sound (now (book .entry)) (now (line .entry)) r (now (book .exit)) ⌝ }
 {

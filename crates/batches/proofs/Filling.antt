@@ -15,7 +15,7 @@ use Rattle.meaning.specs.declared.Sent.{Sent}
 use Rattle.text.specs.Parts.{Splits}
 use Rattle.text.specs.Printed.{Prints}
 use Rattle.text.specs.declared.lines.Span.{Span}
-use Rattle.writing.specs.Written.{space, writtenAs}
+use Rattle.writing.specs.Written.{space}
 use Rattle.writing.specs.declared.bytes.Written.{Written}
 use Rattle.writing.proofs.Texts.{fits}
 use Rattle.answering.specs.Taking.{answerBy, bytesBy, Answers}

@@ -1,6 +1,6 @@
 -- Answer i stands at byte 32 × i, and the bytes behind the answers are those that stood there.
 use Prim.Native.Nat.{ℕ, zero, suc, _+_, _-_, _*_, _≤_, _<_}
-use mathlib.Core.Path.{_≡_, refl, sym, ap, _∙_}
+use mathlib.Core.Path.{_≡_, ap, _∙_}
 use mathlib.Core.List.{List, [], _∷_, _++_}
 use native.Mathlib.Omega.{arith}
 use lib.ListN.{length, getD, take, drop, replicate, length-append, length-replicate, length-drop}

@@ -1,4 +1,5 @@
--- A block of free places at once: bytes that are all 0 are free places, and the loop over the places may pass them over.
+-- A block of free places at once: bytes that are all 0 are free places, and the loop over the places may pass them
+-- over.
 use Prim.Native.Nat.{ℕ, zero, suc, _+_, _-_, _≤_, _<_}
 use mathlib.Core.Path.{_≡_, sym, _∙_}
 use mathlib.Core.Bool.{Bool, true}

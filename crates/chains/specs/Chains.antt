@@ -41,8 +41,8 @@ pub record Unchained (head next : List ℕ) : Type 0 where
   pub heads : Blank buckets head
   pub nexts : Blank mostPlaces next
 
--- a walk along the chain of the bucket k, where only places of the bucket are asked for, has come to j: the places below
--- j answer for those below i
+-- a walk along the chain of the bucket k, where only places of the bucket are asked for, has come to j: the places
+-- below j answer for those below i
 pub record Walking (csd bucket : ℕ → ℕ) (k : ℕ) (p : ℕ → Bool) (i j : ℕ) : Type 0 where
   pub only : (n : ℕ) → p n ≡ true → inBucket csd bucket k n ≡ true
   pub few : j ≤ i

@@ -1,13 +1,19 @@
 -- The desk's loop hands an input in pieces to `lines`.
 use Prim.Native.Nat.{ℕ, _+_, _*_, _≤_, _<_}
 use mathlib.Core.Path.{_≡_, refl, sym, ap, _∙_}
-use mathlib.Core.Bool.{cond}
+use mathlib.Core.Bool.{Bool, true, false, cond, false≢true}
 use mathlib.Core.List.{List, [], _∷_, _++_, append-nil}
 use native.Mathlib.Omega.{arith}
 use native.Mathlib.Nat.{add-zero}
 use lib.ListN.{length, take, drop, length-take, length-drop}
 use lib.Seq.{length-take-le, take-add}
-use borrow.Author.Tests.{eq-eqb}
+use borrow.Author.Tests.{eq-eqb, ltb-true}
+use lib.IntN.{ℤ, pos, negsuc}
+use lib.Signed.{ltZ}
+use mir.Syntax.{w64}
+use mir.Val.{SFits, toZ, ofZ}
+use mir.Facts.{toZ-ofZ}
+use Rattle.io.specs.Counts.{clamped}
 use Rattle.places.specs.Layout.{bookSize}
 use Rattle.book.specs.Emptied.{emptyAnswer, Emptied}
 use Rattle.lines.specs.Ended.{begun}
@@ -17,13 +23,44 @@ use Rattle.lines.specs.declared.Desk.{Desk}
 use Rattle.lines.specs.declared.Step.{Step}
 use Rattle.lines.proofs.LinesCallers.{has-room}
 use Rattle.lines.proofs.WholeText.{desk-alone}
-use Rattle.desk.specs.Loop.{Behind, Hands, Ends, Reads, Input, OneInput}
+use Rattle.desk.specs.Loop.{endedBy, Gave, Behind, Hands, Ends, Reads, Input, OneInput}
 
 pub not-done : {A : Type 0} (s : ℕ) → (s ≡ 48 → ⊥) → s ≡ 48 → A
 not-done s f e = absurd (f e)
 
 pub not-failed : {A : Type 0} → _≡_ {A = ℕ} 49 48 → A
 not-failed e = absurd (omega arith)
+
+-- ---- what `read` answers: a signed local is read back from its bits
+
+below : (z : ℤ) → ltZ z (pos 0) ≡ true → 49 ≡ endedBy z
+unfolding endedBy
+below (pos k) e = absurd (let z = ltb-true k 0 e in omega (arith, z))
+below (negsuc k) e = refl
+
+above : (z : ℤ) → ltZ z (pos 0) ≡ false → 48 ≡ endedBy z
+unfolding endedBy
+above (pos k) e = refl
+above (negsuc k) e = absurd (false≢true (sym e))
+
+module _ {got : ℤ} {n : ℕ} (fits : SFits w64 got) (space : List ℕ)
+    (came : n ≡ clamped (toZ w64 (ofZ w64 got)) (length space)) where
+  counted : n ≡ clamped got (length space)
+  counted = came ∙ ap (λ z. clamped z (length space)) (toZ-ofZ fits)
+
+  pub gave-none : {s : ℕ} → ltZ (toZ w64 (ofZ w64 got)) (pos 0) ≡ true → s ≡ 49 → Gave got space n s
+  gave-none e f = record { came = counted; ended = f ∙ below got (ap (λ z. ltZ z (pos 0)) (sym (toZ-ofZ fits)) ∙ e) }
+
+  pub gave-some : ltZ (toZ w64 (ofZ w64 got)) (pos 0) ≡ false → Gave got space n 48
+  gave-some e = record { came = counted; ended = above got (ap (λ z. ltZ z (pos 0)) (sym (toZ-ofZ fits)) ∙ e) }
+
+clamped-fits : (z : ℤ) (m : ℕ) → clamped z m ≤ m
+clamped-fits (pos k) m = omega arith
+clamped-fits (negsuc k) m = omega arith
+
+-- no more than the space has
+pub gave-fits : {got : ℤ} {space : List ℕ} {n s : ℕ} → Gave got space n s → n ≤ length space
+gave-fits {got} {space} g = omega (arith, g .came, clamped-fits got (length space))
 
 -- a part of a text that stands within it has room where the whole has
 fits : (k : ℕ) (t o : List ℕ) → 33 * length t ≤ length o → 33 * length (take k t) ≤ length o
@@ -97,9 +134,15 @@ module _ {b₀ t₀ o₀ b t o t₁ : List ℕ} {d : Desk} {k n : ℕ} (g : Goin
 -- ---- an input over a book that was emptied
 
 pub one-input : {lent emptied text after : List ℕ} {r : ℕ} (s : ℕ) → (s ≡ 48 → Input emptied text after)
-    → Emptied lent emptied r → length lent ≡ bookSize → s ≡ 48 → OneInput
+    → Emptied lent emptied r → length lent ≡ bookSize → s ≡ 48 → OneInput lent text after
 unfolding emptyAnswer
 one-input {lent} {emptied} {text} {after} {r} s f e n d =
     let i = f d in
     let z : r ≡ 0 = e .answered ∙ ap (λ q. cond q 0 1) (eq-eqb (length lent) bookSize n) in
-    record { pieces = i .pieces; written = i .written; alone = desk-alone lent emptied (rw z at e) text (i .pieces) (i .written) after (i .fed) }
+    let e′ : Emptied lent emptied 0 = rw z at e in
+    record {
+      start = emptied;
+      emptied = e′;
+      input = i;
+      alone = desk-alone lent emptied e′ text (i .pieces) (i .written) after (i .fed);
+    }

@@ -4,10 +4,23 @@ use mathlib.Core.Path.{_≡_}
 use mathlib.Core.Bool.{true}
 use mathlib.Core.List.{List}
 use lib.ListN.{length, take}
+use lib.IntN.{ℤ, pos, negsuc}
+use Rattle.io.specs.Counts.{clamped}
+use Rattle.book.specs.Emptied.{Emptied}
 use Rattle.lines.specs.Pieces.{atFirst, Piece, End}
 use Rattle.lines.specs.Whole.{Fed, joined, Alone}
 use Rattle.lines.specs.declared.Desk.{Desk}
 use Rattle.lines.specs.declared.Step.{Step}
+
+-- done (48), or failed (49) where the answer is negative
+unfoldable pub endedBy : ℤ → ℕ
+endedBy (pos n) = 48
+endedBy (negsuc n) = 49
+
+-- of what `read` answered into a space: how many of its bytes came, and how it ended
+pub record Gave (got : ℤ) (space : List ℕ) (bytes status : ℕ) : Type 0 where
+  pub came : bytes ≡ clamped got (length space)
+  pub ended : status ≡ endedBy got
 
 -- r bytes were read behind the held ones, which stay
 pub record Behind (held : ℕ) (t : List ℕ) (r : ℕ) (t′ : List ℕ) : Type 0 where
@@ -43,9 +56,10 @@ pub record Input (b t b′ : List ℕ) : Type 0 where
   pub written : List ℕ
   pub fed : Fed (atFirst b) b t pieces written b′
 
--- demand 3 for an input: what was written are answers of which those at the lines that name a depository are its lone
--- book's
-pub record OneInput : Type 0 where
-  pub pieces : List (List ℕ)
-  pub written : List ℕ
-  pub alone : Alone (joined pieces) written
+-- an input over a lent book that was emptied for it: from the emptied book on its pieces were handed on up to the end.
+-- Demand 3 for it: what was written are answers of which those at the lines that name a depository are its lone book's.
+pub record OneInput (lent text after : List ℕ) : Type 0 where
+  pub start : List ℕ
+  pub emptied : Emptied lent start 0
+  pub input : Input start text after
+  pub alone : Alone (joined (input .pieces)) (input .written)

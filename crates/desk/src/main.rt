@@ -13,7 +13,8 @@ use places::SIZE;
 ghost use Prim.Native.Nat.{_*_, _≤_};
 ghost use mathlib.Core.Path.{_≡_};
 ghost use lib.ListN.{length};
-ghost use Rattle.desk.specs.Loop.{Behind, Hands, Ends, Reads, Input, OneInput};
+ghost use Rattle.places.specs.Layout.{bookSize};
+ghost use Rattle.desk.specs.Loop.{Gave, Behind, Hands, Ends, Reads, Input, OneInput};
 
 // How the work ended, as a digit for descriptor 3: a program has no status of its own, and ./precheck reads it there.
 const DONE: u8 = b'0';
@@ -32,7 +33,9 @@ const ANSWERS: usize = 270336;
 // ---- Failures.
 
 // Names what failed, and why, on standard error.
-fn failed(what: &[u8]) -> u8 {
+fn failed(what: &[u8]) -> u8
+    ensures { λ r. ⌜ r ≡ 49 ⌝ }
+{
     io::write_all(STDERR_FILENO, b"precheck: ");
     os::fail(what);
     FAILED
@@ -88,17 +91,14 @@ struct Reading {
     status: u8,
 }
 
-// Reads once behind the bytes held.
-fn read_behind(fd: i32, name: &[u8], text: &mut [u8], held: usize) -> Reading
-    requires { ⌜ held ≤ length (now text) ⌝ }
-    ensures { λ r. ⌜ Behind held (now (text .entry)) (r .bytes) (now (text .exit)) ⌝ }
+// What a call of `read` into a space answered: how many bytes came; a failure is named.
+fn answered_by(got: isize, space: &[u8], name: &[u8]) -> Reading
+    ensures { λ r. ⌜ Gave got (now (space .entry)) (r .bytes) (r .status) ⌝ }
 {
-    let rest = &mut text[held..];
-    let got = libc::read(fd, rest);
-    let came = io::count(got, rest);
+    let came = io::count(got, space);
     if got < 0 {
         return Reading {
-            bytes: 0,
+            bytes: came,
             status: failed(name),
         };
     }
@@ -106,6 +106,16 @@ fn read_behind(fd: i32, name: &[u8], text: &mut [u8], held: usize) -> Reading
         bytes: came,
         status: DONE,
     }
+}
+
+// Reads once behind the bytes held.
+fn read_behind(fd: i32, name: &[u8], text: &mut [u8], held: usize) -> Reading
+    requires { ⌜ held ≤ length (now text) ⌝ }
+    ensures { λ r. ⌜ Behind held (now (text .entry)) (r .bytes) (now (text .exit)) ⌝ }
+{
+    let rest = &mut text[held..];
+    let got = libc::read(fd, rest);
+    answered_by(got, rest, name)
 }
 
 // What a piece leaves: the desk, and whether its answers were written.
@@ -181,15 +191,22 @@ fn answer_all(fd: i32, name: &[u8], book: &mut [u8], text: &mut [u8], out: &mut 
     FAILED
 }
 
-// Answers what a descriptor gives, over a book emptied for it.
-fn answer_input(fd: i32, name: &[u8]) -> u8
-    ensures { λ r. ⌜ (r ≡ 48 → OneInput) ⌝ }
+// Answers what a descriptor gives, over a lent book that is emptied for it.
+fn answer_emptied(fd: i32, name: &[u8], book: &mut [u8], text: &mut [u8], out: &mut [u8]) -> u8
+    requires { ⌜ length (now book) ≡ bookSize ⌝ }
+    requires { ⌜ 82 ≤ length (now text) ⌝ }
+    requires { ⌜ 33 * length (now text) ≤ length (now out) ⌝ }
+    ensures { λ r. ⌜ (r ≡ 48 → OneInput (now (book .entry)) (now (text .entry)) (now (book .exit))) ⌝ }
 {
+    precheck::empty(book);
+    answer_all(fd, name, book, text, out)
+}
+
+fn answer_input(fd: i32, name: &[u8]) -> u8 {
     let mut book = book_space();
-    precheck::empty(&mut book);
     let mut text = text_space();
     let mut out = answer_space();
-    answer_all(fd, name, &mut book, &mut text, &mut out)
+    answer_emptied(fd, name, &mut book, &mut text, &mut out)
 }
 
 fn answer_standard_input() -> u8 {
@@ -331,7 +348,7 @@ fn answer_arguments(count: usize) -> u8 {
     DONE
 }
 
-// Whether the first argument is a word of five letters.
+// Whether the first argument is that word, of at most five letters.
 fn is_first(name: &[u8]) -> bool {
     let mut word = [0u8; 6];
     let n = os::arg(1, &mut word);

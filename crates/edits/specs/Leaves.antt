@@ -27,8 +27,8 @@ pub record Accepted (b : List ℕ) (c : ℕ) (k : M.Command) : Type 0 where
   pub fits : meant.fits k ≡ true
   pub unrefused : refusal (loneBook c b) k ≡ 0
 
--- its depository holds exactly the records that the meaning leaves it, every other exactly what it held, and the book is
--- sound
+-- its depository holds exactly the records that the meaning leaves it, every other exactly what it held, and the book
+-- is sound
 pub record Edited (b : List ℕ) (c : ℕ) (k : M.Command) (b′ : List ℕ) : Type 0 where
   pub left : Leaves b b′ c (meant.edited (loneBook c b) k)
   pub stays : sound b′ ≡ true

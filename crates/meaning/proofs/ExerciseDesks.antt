@@ -11,10 +11,11 @@ use Rattle.meaning.specs.Records.{Rule, Row, Book, Question, empty, posi
 use Rattle.meaning.specs.Reading.{reading}
 use Rattle.meaning.specs.Sound.{soundLone}
 use Rattle.meaning.specs.Judging.{judged}
-use Rattle.meaning.specs.Lone.{answersFrom, after, answers}
+use Rattle.meaning.specs.Lone.{stepSent, told, after, answers}
 use Rattle.meaning.specs.Printing.{printed}
 use Rattle.meaning.specs.SameBook.{SameBook}
-use Rattle.meaning.specs.Exercise.{commandRead, sameRule, byEntry, Moves, between, namesRule, decides}
+use Rattle.meaning.specs.declared.Sent.the-variants.{Alone}
+use Rattle.meaning.specs.Exercise.{commandRead, done, taking, passing, sameRule, byEntry, Moves, between, namesRule, decides}
 use Rattle.meaning.proofs.ExerciseOutIn.{put-back}
 use Rattle.meaning.proofs.ExerciseMoved.{behind-another}
 
@@ -49,15 +50,20 @@ freeRow sequence = record {
   values = 0 ∷ 0 ∷ 2 ∷ 0 ∷ 0 ∷ 0 ∷ 0 ∷ 0 ∷ 0 ∷ 0 ∷ [];
 }
 
--- out, and in again under a sequence
+-- out, and in again as 5: the lines of the lesson, with its questions and refused lines
 abbrev firstDesk : List (List ℕ)
 firstDesk =
-    bytes "N,3,20170206,9,1,5,,,FREE,,,,,,,"
+    bytes "D,3,20170206,9,1,5"
+    ∷ bytes "N,3,20170206,9,1,5,,,FREE,,,,,,,"
+    ∷ bytes "D,3,20170206,9,1,5"
+    ∷ bytes "Q,3,20170207,1,2,DELI,FREE,,EUR,11,20,30"
+    ∷ bytes "Q,3,20170207,1,2,RECE,FREE,,EUR,11,20,30"
     ∷ bytes "D,3,20170206,9,1,5"
     ∷ bytes "R,3,20170206,9,1,5,P,4,20170207,20991231"
     ∷ bytes "M,3,20170206,9,1,5,,,FREE,,,,,,,"
     ∷ []
 
+-- and as 9
 abbrev secondDesk : List (List ℕ)
 secondDesk =
     bytes "N,3,20170206,9,1,5,,,FREE,,,,,,,"
@@ -68,19 +74,22 @@ secondDesk =
 
 -- As 5: exactly the same records.
 pub first-desk : SameBook (after desk firstDesk) desk
-unfolding desk soundLone has sameRule answersFrom reading commandRead
+unfolding desk soundLone has sameRule stepSent reading commandRead after
 first-desk =
-    put-back desk refl (free 5) refl (freeRow 5 ∷ []) (freeRow 5 ∷ []) (λ p. refl) 20170206 firstDesk
-    (record { asked = refl; taken = refl })
+    put-back desk refl (free 5) refl (freeRow 5 ∷ []) (freeRow 5 ∷ []) (λ p. refl) 20170206 (told Alone firstDesk)
+    (passing refl
+    (taking refl refl
+    (taking refl refl
+    (passing refl (passing refl (passing refl (taking refl refl (taking refl refl done))))))))
 
-second-moves : Moves desk (free 5) 9 secondDesk
-unfolding desk soundLone has sameRule answersFrom reading commandRead change count
+second-moves : Moves desk (free 5) 9 (told Alone secondDesk)
+unfolding desk soundLone has sameRule stepSent reading commandRead change count
 second-moves =
     record {
       sound = refl;
       held = refl;
       way = byEntry (λ e. omega arith) (freeRow 5 ∷ []) (freeRow 9 ∷ []) (λ p. refl) 20170206
-          (record { asked = refl; taken = refl });
+          (taking refl refl (taking refl refl (taking refl refl (taking refl refl done))));
     }
 
 -- the delivery free of payment that both rules match
@@ -100,8 +109,8 @@ delivery = record {
 
 -- As 9: the broader rule, 7, is named.
 pub second-desk : namesRule 9 7 (judged (after desk secondDesk) delivery) ≡ true
-unfolding desk decides has between least
-second-desk = behind-another desk (free 5) 9 secondDesk second-moves delivery refl refl
+unfolding desk decides has between least after
+second-desk = behind-another desk (free 5) 9 (told Alone secondDesk) second-moves delivery refl refl
 
 -- A negative rule exempts in front of the positive one and behind it: 3, then 7.
 pub negative-desk : map printed (answers (

@@ -1,20 +1,23 @@
--- Lines that are each answered K: their commands are in range and not refused, and the book is edited by each in turn.
+-- Lines of which these are answered K: their commands are in range and not refused, and the book is edited by each in
+-- turn.
 use Prim.Native.Nat.{ℕ, zero, suc}
 use mathlib.Core.Path.{_≡_, refl, ap, sym, subst, _∙_}
-use mathlib.Core.Bool.{true}
-use mathlib.Core.List.{List, [], _∷_, map}
+use mathlib.Core.Bool.{Bool, true, false}
+use mathlib.Core.List.{List, [], _∷_}
 use mathlib.Core.Option.{some}
 use native.Mathlib.Omega.{arith}
-use Rattle.meaning.specs.Records.{Book, Question, Command, commandOf, ask}
+use Rattle.meaning.specs.Records.{_!_, Book, Question, Command, commandOf, ask}
 use Rattle.meaning.specs.Reading.{Reading, refused, asks, reading}
 use Rattle.meaning.specs.Refusals.{conditions, refusal}
 use Rattle.meaning.specs.Edits.{edited, fits}
 use Rattle.meaning.specs.Judging.{judged}
-use Rattle.meaning.specs.Lone.{Step, reply, replied, unless, taken, afterReading, step, answersFrom, after}
+use Rattle.meaning.specs.Lone.{Step, elsewhere, reply, replied, unless, takenSent, taken, afterReading, stepSent, step, afterSent}
 use Rattle.meaning.specs.declared.Answer.the-variants.{Taken, Judged}
+use Rattle.meaning.specs.declared.Sent.{Sent}
 use Rattle.meaning.specs.declared.Sent.the-variants.{Alone}
-use Rattle.meaning.specs.Exercise.{commandRead, Entered, QuestionAnswered}
+use Rattle.meaning.specs.Exercise.{commandRead, Entered, done, taking, passing, QuestionAnswered}
 use Rattle.meaning.proofs.Ranges.{reading-fits}
+use Rattle.meaning.proofs.HowSent.{sent-here}
 
 -- the commands are in range and not refused, one after the other, and leave the book c
 abbrev pub Accepted : Book → List Command → Book → Type 0
@@ -33,36 +36,34 @@ unfolding unless
 unless-taken zero b k e = (refl, refl)
 unless-taken (suc n) b k e = absurd (let z : _≡_ {A = ℕ} 0 1 = cc in omega arith)
 
-read-taken : (b : Book) (line : List ℕ) (r : Reading) (k : Command) → reading line ≡ r → commandRead r ≡ some k
-    → afterReading Alone b r .answer ≡ Taken → One b k (afterReading Alone b r)
-unfolding afterReading commandRead refusal
-read-taken b line (refused n) k z e t = absurd (let z : _≡_ {A = ℕ} 0 1 = cc in omega arith)
-read-taken b line (asks l v) k z e t =
+taken-sent : (e : Bool) (b : Book) (k : Command) → takenSent e b k .answer ≡ Taken
+    → (refusal b k ≡ 0) × (takenSent e b k .book ≡ edited b k)
+unfolding takenSent refusal
+taken-sent true b k t = absurd (let z : _≡_ {A = ℕ} 0 1 = cc in omega arith)
+taken-sent false b k t = unless-taken (refusal b k) b k t
+
+read-taken : (how : Sent) (b : Book) (line : List ℕ) (r : Reading) (k : Command) → reading line ≡ r
+    → commandRead r ≡ some k → afterReading how b r .answer ≡ Taken → One b k (afterReading how b r)
+unfolding afterReading commandRead
+read-taken how b line (refused n) k z e t = absurd (let z : _≡_ {A = ℕ} 0 1 = cc in omega arith)
+read-taken how b line (asks l v) k z e t =
     let i : commandOf l v ≡ k = cc in
-    let u = unless-taken (refusal b (commandOf l v)) b (commandOf l v) t in
+    let u = taken-sent (elsewhere how (v ! 0)) b (commandOf l v) t in
     record {
       range = ap fits (sym i) ∙ reading-fits line l v z;
       free = ap (refusal b) (sym i) ∙ u .0;
       left = u .1 ∙ ap (edited b) i;
     }
 
-through : (lines : List (List ℕ)) (b : Book) (ks : List Command)
-    → map (λ line. commandRead (reading line)) lines ≡ map some ks → answersFrom b lines ≡ map (λ k. Taken) ks
-    → Accepted b ks (after b lines)
-unfolding answersFrom after step
-through [] b [] e t = refl
-through [] b (k ∷ ks) e t = absurd (let z : _≡_ {A = ℕ} 0 1 = cc in omega arith)
-through (line ∷ lines) b [] e t = absurd (let z : _≡_ {A = ℕ} 0 1 = cc in omega arith)
-through (line ∷ lines) b (k ∷ ks) e t =
-    let asked : commandRead (reading line) ≡ some k = cc in
-    let others : map (λ line. commandRead (reading line)) lines ≡ map some ks = cc in
-    let answer : step b line .answer ≡ Taken = cc in
-    let rest : answersFrom (step b line .book) lines ≡ map (λ k. Taken) ks = cc in
-    let one = read-taken b line (reading line) k refl asked answer in
-    (one .range, one .free, subst (λ d. Accepted d ks (after b (line ∷ lines))) (one .left) (through lines (step b line .book) ks others rest))
-
-pub accepted : {b : Book} {lines : List (List ℕ)} {ks : List Command} → Entered b lines ks → Accepted b ks (after b lines)
-accepted {b = b} {lines = lines} {ks = ks} e = through lines b ks (e .asked) (e .taken)
+pub accepted : {b : Book} {lines : List (Sent × List ℕ)} {ks : List Command} → Entered b lines ks
+    → Accepted b ks (afterSent b lines)
+unfolding afterSent stepSent
+accepted done = refl
+accepted (taking {b = b} {how = how} {line = line} {lines = lines} {k = k} {ks = ks} e t rest) =
+    let one = read-taken how b line (reading line) k refl e t in
+    (one .range, one .free, subst (λ d. Accepted d ks (afterSent b ((how, line) ∷ lines))) (one .left) (accepted rest))
+accepted (passing {b = b} {how = how} {line = line} {lines = lines} {ks = ks} e rest) =
+    subst (λ d. Accepted b ks (afterSent d lines)) (sym e) (accepted rest)
 
 -- ---- questions
 
@@ -73,5 +74,6 @@ read-answered b (refused n) q e = absurd (let z : _≡_ {A = ℕ} 0 1 = cc in om
 read-answered b (asks l v) q e = let i : commandOf l v ≡ ask q = cc in ap (λ k. taken b k .answer) i
 
 pub question-answered : QuestionAnswered
-unfolding step
-question-answered b line q = read-answered b (reading line) q
+unfolding step stepSent
+question-answered how b line q here e =
+    ap (λ s. s .answer) (sent-here how b line here) ∙ read-answered b (reading line) q e

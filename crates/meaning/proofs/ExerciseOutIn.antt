@@ -17,12 +17,12 @@ use Rattle.meaning.specs.Refusals.{conditions, refusal}
 use Rattle.meaning.specs.Edits.{ruleMoved, rowMoved, withRows, edited, fits}
 use Rattle.meaning.specs.Sound.{ruleFits}
 use Rattle.meaning.specs.SameBook.{SameBook}
-use Rattle.meaning.specs.Lone.{after}
+use Rattle.meaning.specs.Lone.{afterSent}
 use Rattle.meaning.specs.Exercise.{sameRule, outAndIn, PutBack, PutBackAnswers}
 use Rattle.meaning.proofs.First.{command-not-refused}
 use Rattle.meaning.proofs.Keys.{rule-key, rule-self, of-key, row-key}
 use Rattle.meaning.proofs.Listed.{count-less}
-use Rattle.meaning.proofs.Order.{answers-same}
+use Rattle.meaning.proofs.Order.{answers-sent-same}
 use Rattle.meaning.proofs.Good.{Good, good-of-sound}
 use Rattle.meaning.proofs.Kept.{good-edited}
 use Rattle.meaning.proofs.ExerciseLines.{Accepted, accepted}
@@ -224,8 +224,8 @@ module _ (b : Book) (g : Good b) (r : Rule) (held : has (sameRule r) (b .rules) 
 
 pub put-back : PutBack
 put-back b e r held out rows s day lines t =
-    back b (good-of-sound b e) r held out rows s day (after b lines) (accepted t)
+    back b (good-of-sound b e) r held out rows s day (afterSent b lines) (accepted t)
 
 pub put-back-answers : PutBackAnswers
 put-back-answers b e r held out rows s day lines t later =
-    answers-same later (after b lines) b (put-back b e r held out rows s day lines t)
+    answers-sent-same later (afterSent b lines) b (put-back b e r held out rows s day lines t)

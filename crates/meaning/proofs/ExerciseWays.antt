@@ -13,7 +13,8 @@ use Rattle.meaning.specs.Refusals.{conditions}
 use Rattle.meaning.specs.Edits.{ruleMoved, edited, fits}
 use Rattle.meaning.specs.Sound.{ruleFits}
 use Rattle.meaning.specs.SameBook.{SameBook}
-use Rattle.meaning.specs.Lone.{after}
+use Rattle.meaning.specs.Lone.{afterSent}
+use Rattle.meaning.specs.declared.Sent.{Sent}
 use Rattle.meaning.specs.Exercise.{sameRule, Way, byReorder, byEntry, Moves, EitherWay}
 use Rattle.meaning.proofs.First.{command-not-refused}
 use Rattle.meaning.proofs.Keys.{rule-key}
@@ -47,7 +48,7 @@ equal-same b c e = record {
   periods = λ p. ap (λ d. count p (d .periods)) e;
 }
 
-module _ (b : Book) (r : Rule) (new : ℕ) (lines : List (List ℕ)) (g : Good b) (held : has (sameRule r) (b .rules) ≡ true)
+module _ (b : Book) (r : Rule) (new : ℕ) (lines : List (Sent × List ℕ)) (g : Good b) (held : has (sameRule r) (b .rules) ≡ true)
   where
     -- the rule itself stands at its sequence
     not-own : has (isRule (r .type) (r .object) new) (b .rules) ≡ false → new ≡ r .sequence → ⊥
@@ -55,7 +56,7 @@ module _ (b : Book) (r : Rule) (new : ℕ) (lines : List (List ℕ)) (g : Good b
         false≢true
         (sym e ∙ ap (λ s. has (isRule (r .type) (r .object) s) (b .rules)) z ∙ has-map (sameRule r) _ (b .rules) held (same-key r))
 
-    by-way : Way b r new lines → Shifted b r new (after b lines)
+    by-way : Way b r new lines → Shifted b r new (afterSent b lines)
     unfolding fits conditions every
     by-way (byReorder t) =
         let (f, e, l) = accepted t in
@@ -66,10 +67,10 @@ module _ (b : Book) (r : Rule) (new : ℕ) (lines : List (List ℕ)) (g : Good b
           free = free;
           some-place = from-one new f;
           apart = not-own free;
-          same = equal-same _ (after b lines) l;
+          same = equal-same _ (afterSent b lines) l;
         }
     by-way (byEntry apart out rows s day t) =
-        let z = again b g r held new out rows s day (after b lines) (accepted t) in
+        let z = again b g r held new out rows s day (afterSent b lines) (accepted t) in
         record {
           good = g;
           held = held;
@@ -87,7 +88,7 @@ module _ (b : Book) (r : Rule) (new : ℕ) (lines : List (List ℕ)) (g : Good b
           same = z .same;
         }
 
-pub shifted : {b : Book} {r : Rule} {new : ℕ} {lines : List (List ℕ)} → Moves b r new lines → Shifted b r new (after b lines)
+pub shifted : {b : Book} {r : Rule} {new : ℕ} {lines : List (Sent × List ℕ)} → Moves b r new lines → Shifted b r new (afterSent b lines)
 shifted {b = b} {r = r} {new = new} {lines = lines} m =
     by-way b r new lines (good-of-sound b (m .sound)) (m .held) (m .way)
 

@@ -38,7 +38,9 @@ lessonLines =
     ∷ bytes "Q,3,20170331,1,2,DELI,FREE,,EUR,11,20,30"
     ∷ bytes "Q,3,20170401,1,2,DELI,FREE,,EUR,11,20,30"
     ∷ bytes "A,3,20170206,P,11,101,20170207,20991231"
+    ∷ bytes "A,3,20170207,P,11,102,20170401,20991231"
     ∷ bytes "Z,3,20170207,P,11,101,20170207,20170331"
+    ∷ bytes "A,3,20170207,P,11,102,20170401,20991231"
     ∷ []
 
 -- the answers to depository 3
@@ -69,6 +71,8 @@ answersTo3 =
     ∷ bytes "K"
     ∷ bytes "V,A,0,0,0,0,9,7"
     ∷ bytes "V,A,0,0,0,0,0,0"
+    ∷ bytes "K"
+    ∷ bytes "F,8"
     ∷ bytes "K"
     ∷ bytes "K"
     ∷ []

@@ -14,7 +14,7 @@ use Rattle.meaning.specs.Keys.{isType, isRule, ofRule, isRow, isPeriod, 
 use Rattle.meaning.specs.Refusals.{typeOutside, periodOutside, otherCriteria, firstOf, conditions, refusal}
 use Rattle.meaning.specs.Edits.{typeUntil, ruleMoved, rowMoved, periodUntil, edited}
 use Rattle.meaning.specs.Judging.{covers, meetsAll, hasCode, tests, matches, ruleApplies, applies, named, deciding, decided, verdict, judged}
-use Rattle.meaning.specs.Lone.{Step, elsewhere, replied, reply, unless, takenSent, afterReading, stepSent, step, answersFrom}
+use Rattle.meaning.specs.Lone.{Step, elsewhere, replied, reply, unless, takenSent, afterReading, stepSent, step, answersSent, told, answersFrom}
 use Rattle.meaning.specs.SameBook.{SameBook}
 use Rattle.meaning.specs.declared.Answer.the-variants.{Judged}
 use Rattle.meaning.specs.declared.Sent.{Sent}
@@ -193,9 +193,15 @@ pub step-same : (b c : Book) → SameBook b c → (line : List ℕ) → SameStep
 unfolding step
 step-same b c s line = sent-same Alone b c s line
 
+-- the answers to lines, each told how it was sent
+pub answers-sent-same : (lines : List (Sent × List ℕ)) (b c : Book) → SameBook b c
+    → answersSent b lines ≡ answersSent c lines
+unfolding answersSent
+answers-sent-same [] b c s = refl
+answers-sent-same (l ∷ lines) b c s =
+    let t = sent-same (l .0) b c s (l .1) in
+    ap₂ _∷_ (t .answer) (answers-sent-same lines (stepSent (l .0) b (l .1) .book) (stepSent (l .0) c (l .1) .book) (t .book))
+
 pub answers-same : (lines : List (List ℕ)) (b c : Book) → SameBook b c → answersFrom b lines ≡ answersFrom c lines
 unfolding answersFrom
-answers-same [] b c s = refl
-answers-same (line ∷ lines) b c s =
-    let t = step-same b c s line in
-    ap₂ _∷_ (t .answer) (answers-same lines (step b line .book) (step c line .book) (t .book))
+answers-same lines b c s = answers-sent-same (told Alone lines) b c s

@@ -27,12 +27,13 @@ use Rattle.meaning.specs.Reading.{Reading, refused, asks, reading}
 use Rattle.meaning.specs.Keys.{isRule, ofRule}
 use Rattle.meaning.specs.Edits.{ruleMoved, rowMoved}
 use Rattle.meaning.specs.Judging.{by, nobody, ruleApplies, judged}
-use Rattle.meaning.specs.Lone.{step, answersFrom, after}
+use Rattle.meaning.specs.Lone.{elsewhere, stepSent, depository, answersSent, afterSent}
 use Rattle.meaning.specs.Sound.{soundLone}
 use Rattle.meaning.specs.SameBook.{SameBook}
 use Rattle.meaning.specs.declared.Deciding.{Deciding}
 use Rattle.meaning.specs.declared.Verdict.{Verdict}
 use Rattle.meaning.specs.declared.Answer.the-variants.{Taken, Judged}
+use Rattle.meaning.specs.declared.Sent.{Sent}
 
 -- ---- lines that are taken
 
@@ -42,16 +43,22 @@ unfolding commandOf
 commandRead (refused n) = none
 commandRead (asks l v) = some (commandOf l v)
 
--- lines that ask for these commands are sent one after the other, and each is answered K
-pub record Entered (b : Book) (lines : List (List ℕ)) (commands : List Command) : Type 0 where
-  pub asked : map (λ line. commandRead (reading line)) lines ≡ map some commands
-  pub taken : answersFrom b lines ≡ map (λ k. Taken) commands
+-- Lines are sent one after the other, alone or in batches: these commands, each answered K, and between them any lines
+-- that leave the lists, as questions and refused lines do.
+pub data Entered : Book → List (Sent × List ℕ) → List Command → Type 0 where
+  done : {b : Book} → Entered b [] []
+  taking : {b : Book} {how : Sent} {line : List ℕ} {lines : List (Sent × List ℕ)} {k : Command} {ks : List Command}
+      → commandRead (reading line) ≡ some k → stepSent how b line .answer ≡ Taken
+      → Entered (stepSent how b line .book) lines ks → Entered b ((how, line) ∷ lines) (k ∷ ks)
+  passing : {b : Book} {how : Sent} {line : List ℕ} {lines : List (Sent × List ℕ)} {ks : List Command}
+      → stepSent how b line .book ≡ b → Entered b lines ks → Entered b ((how, line) ∷ lines) ks
 
--- A line that asks a question is answered with its verdict: what is said below of `judged` is said of the answers.
+-- A line that asks a question, and names the depository of its batch where it comes in one, is answered with its
+-- verdict: what is said below of `judged` is said of the answers.
 abbrev pub QuestionAnswered : Type 0
 QuestionAnswered =
-    (b : Book) (line : List ℕ) (q : Question) → commandRead (reading line) ≡ some (ask q)
-    → step b line .answer ≡ Judged (judged b q)
+    (how : Sent) (b : Book) (line : List ℕ) (q : Question) → elsewhere how (depository line) ≡ false
+    → commandRead (reading line) ≡ some (ask q) → stepSent how b line .answer ≡ Judged (judged b q)
 
 -- the book holds exactly that rule: sequence, sign, criteria and days too
 unfoldable pub sameRule : Rule → Rule → Bool
@@ -69,34 +76,34 @@ outAndIn r out day again rows =
 -- ---- put back as it was
 
 -- A rule whose rows are taken out one by one, that is taken out, entered again as it was and given its rows again in
--- any order, each line being answered K: the book holds exactly the same records.
+-- any order, each of these lines being answered K: the book holds exactly the same records.
 abbrev pub PutBack : Type 0
 PutBack =
     (b : Book) → soundLone b ≡ true → (r : Rule) → has (sameRule r) (b .rules) ≡ true
     → (out rows : List Row) → Same rows out
-    → (day : ℕ) (lines : List (List ℕ)) → Entered b lines (outAndIn r out day r rows)
-    → SameBook (after b lines) b
+    → (day : ℕ) (lines : List (Sent × List ℕ)) → Entered b lines (outAndIn r out day r rows)
+    → SameBook (afterSent b lines) b
 
 -- So every later line gets the same answer.
 abbrev pub PutBackAnswers : Type 0
 PutBackAnswers =
     (b : Book) → soundLone b ≡ true → (r : Rule) → has (sameRule r) (b .rules) ≡ true
     → (out rows : List Row) → Same rows out
-    → (day : ℕ) (lines : List (List ℕ)) → Entered b lines (outAndIn r out day r rows)
-    → (later : List (List ℕ)) → answersFrom (after b lines) later ≡ answersFrom b later
+    → (day : ℕ) (lines : List (Sent × List ℕ)) → Entered b lines (outAndIn r out day r rows)
+    → (later : List (Sent × List ℕ)) → answersSent (afterSent b lines) later ≡ answersSent b later
 
 -- ---- put back elsewhere
 
--- the two ways to another sequence: O; or out and in again under that number, with the same rows in any order, those of
--- the rule under that number too
-pub data Way (b : Book) (r : Rule) (new : ℕ) (lines : List (List ℕ)) : Type 0 where
+-- the two ways to another sequence: O; or out and in again under that number, with the same rows in any order, its own
+-- rows under the new number
+pub data Way (b : Book) (r : Rule) (new : ℕ) (lines : List (Sent × List ℕ)) : Type 0 where
   byReorder : Entered b lines (reorder (r .type) (r .object) (r .sequence) new ∷ []) → Way b r new lines
   byEntry : (new ≡ r .sequence → ⊥) → (out rows : List Row)
       → Same rows (change (ofRule (r .type) (r .object) (r .sequence)) (rowMoved new) out) → (day : ℕ)
       → Entered b lines (outAndIn r out day (ruleMoved new r) rows) → Way b r new lines
 
 -- the lines move a rule of a sound lone book to that sequence, each being answered K
-pub record Moves (b : Book) (r : Rule) (new : ℕ) (lines : List (List ℕ)) : Type 0 where
+pub record Moves (b : Book) (r : Rule) (new : ℕ) (lines : List (Sent × List ℕ)) : Type 0 where
   pub sound : soundLone b ≡ true
   pub held : has (sameRule r) (b .rules) ≡ true
   pub way : Way b r new lines
@@ -104,8 +111,8 @@ pub record Moves (b : Book) (r : Rule) (new : ℕ) (lines : List (List ℕ)) : T
 -- Both ways lead to exactly the same records.
 abbrev pub EitherWay : Type 0
 EitherWay =
-    (b : Book) (r : Rule) (new : ℕ) (lines others : List (List ℕ)) → Moves b r new lines → Moves b r new others
-    → SameBook (after b lines) (after b others)
+    (b : Book) (r : Rule) (new : ℕ) (lines others : List (Sent × List ℕ)) → Moves b r new lines → Moves b r new others
+    → SameBook (afterSent b lines) (afterSent b others)
 
 -- the type, if any, with its sequence by f
 abbrev pub sequenced : (ℕ → ℕ) → ℕ → Deciding
@@ -140,8 +147,8 @@ module _ (b : Book) (q : Question) (r : Rule) (new : ℕ) where
 -- least of the positive rules of their type that match, the moved rule counted at its new place.
 abbrev pub PutElsewhere : Type 0
 PutElsewhere =
-    (b : Book) (r : Rule) (new : ℕ) (lines : List (List ℕ)) → Moves b r new lines → (q : Question)
-    → judged (after b lines) q ≡ resequenced (decidingMoved b q r new) (judged b q)
+    (b : Book) (r : Rule) (new : ℕ) (lines : List (Sent × List ℕ)) → Moves b r new lines → (q : Question)
+    → judged (afterSent b lines) q ≡ resequenced (decidingMoved b q r new) (judged b q)
 
 -- what an answer says but for the sequences: whether it is rejected, and the types that reject, hold for validation and
 -- hold for the party, 0 where none does
@@ -154,8 +161,8 @@ pub record SameTypes (v w : Verdict) : Type 0 where
 -- So it changes neither whether the instruction is rejected, nor which hold is on, nor which type is named.
 abbrev pub ElsewhereTypes : Type 0
 ElsewhereTypes =
-    (b : Book) (r : Rule) (new : ℕ) (lines : List (List ℕ)) → Moves b r new lines → (q : Question)
-    → SameTypes (judged (after b lines) q) (judged b q)
+    (b : Book) (r : Rule) (new : ℕ) (lines : List (Sent × List ℕ)) → Moves b r new lines → (q : Question)
+    → SameTypes (judged (afterSent b lines) q) (judged b q)
 
 -- whether a verdict names that type with that sequence
 abbrev pub isDeciding : ℕ → ℕ → Deciding → Bool
@@ -173,41 +180,41 @@ decides b q r = eqb (q .object) (r .object) && namesRule (r .type) (r .sequence)
 -- The answer stays exactly if the moved rule neither decided before nor decides after.
 abbrev pub ElsewhereChanges : Type 0
 ElsewhereChanges =
-    (b : Book) (r : Rule) (new : ℕ) (lines : List (List ℕ)) → Moves b r new lines → (q : Question)
-    → let either = decides b q r || decides (after b lines) q (ruleMoved new r) in
-    (either ≡ false → judged (after b lines) q ≡ judged b q) × (judged (after b lines) q ≡ judged b q → either ≡ false)
+    (b : Book) (r : Rule) (new : ℕ) (lines : List (Sent × List ℕ)) → Moves b r new lines → (q : Question)
+    → let either = decides b q r || decides (afterSent b lines) q (ruleMoved new r) in
+    (either ≡ false → judged (afterSent b lines) q ≡ judged b q) × (judged (afterSent b lines) q ≡ judged b q → either ≡ false)
 
 -- The second desk: where the moved rule decided and another matching positive rule of its type stands between its old
 -- and its new sequence, the least of those is named instead.
 abbrev pub BehindAnother : Type 0
 BehindAnother =
-    (b : Book) (r : Rule) (new : ℕ) (lines : List (List ℕ)) → Moves b r new lines → (q : Question)
+    (b : Book) (r : Rule) (new : ℕ) (lines : List (Sent × List ℕ)) → Moves b r new lines → (q : Question)
     → decides b q r ≡ true → has (between b q r new) (b .rules) ≡ true
-    → namesRule (r .type) (least (λ x. x .sequence) (between b q r new) (b .rules)) (judged (after b lines) q) ≡ true
+    → namesRule (r .type) (least (λ x. x .sequence) (between b q r new) (b .rules)) (judged (afterSent b lines) q) ≡ true
 
 -- ---- what may be moved freely
 
 -- A negative rule moved to another sequence changes no answer to any question.
 abbrev pub NegativeMoved : Type 0
 NegativeMoved =
-    (b : Book) (r : Rule) (new : ℕ) (lines : List (List ℕ)) → Moves b r new lines → r .sign ≡ negative
-    → (q : Question) → judged (after b lines) q ≡ judged b q
+    (b : Book) (r : Rule) (new : ℕ) (lines : List (Sent × List ℕ)) → Moves b r new lines → r .sign ≡ negative
+    → (q : Question) → judged (afterSent b lines) q ≡ judged b q
 
 -- A rule without rows changes no answer to any question, wherever it stands: not when it is moved,
 abbrev pub WithoutRowsMoved : Type 0
 WithoutRowsMoved =
-    (b : Book) (r : Rule) (new : ℕ) (lines : List (List ℕ)) → Moves b r new lines
+    (b : Book) (r : Rule) (new : ℕ) (lines : List (Sent × List ℕ)) → Moves b r new lines
     → has (ofRule (r .type) (r .object) (r .sequence)) (b .rows) ≡ false
-    → (q : Question) → judged (after b lines) q ≡ judged b q
+    → (q : Question) → judged (afterSent b lines) q ≡ judged b q
 
 -- not when it is entered (R; a rule just entered has no rows),
 abbrev pub WithoutRowsEntered : Type 0
 WithoutRowsEntered =
-    (b : Book) → soundLone b ≡ true → (day : ℕ) (r : Rule) (lines : List (List ℕ))
-    → Entered b lines (addRule day r ∷ []) → (q : Question) → judged (after b lines) q ≡ judged b q
+    (b : Book) → soundLone b ≡ true → (day : ℕ) (r : Rule) (lines : List (Sent × List ℕ))
+    → Entered b lines (addRule day r ∷ []) → (q : Question) → judged (afterSent b lines) q ≡ judged b q
 
 -- and not when it is taken out (D, which is taken only of a rule without rows).
 abbrev pub WithoutRowsDeleted : Type 0
 WithoutRowsDeleted =
-    (b : Book) (type object sequence : ℕ) (lines : List (List ℕ))
-    → Entered b lines (deleteRule type object sequence ∷ []) → (q : Question) → judged (after b lines) q ≡ judged b q
+    (b : Book) (type object sequence : ℕ) (lines : List (Sent × List ℕ))
+    → Entered b lines (deleteRule type object sequence ∷ []) → (q : Question) → judged (afterSent b lines) q ≡ judged b q

@@ -20,7 +20,7 @@ use Rattle.book.specs.Lone.{loneBook}
 use Rattle.book.specs.Sound.{sound}
 use Rattle.answering.proofs.Submits.{untaken-kept}
 use Rattle.precheck.specs.Promise.{answerIn, loneAfter, leftAsFound, SubmittedAs, Submitted}
-use Rattle.precheck.specs.Batch.{Steps, stop, next, Batched, isTwelve, linesTaken, AsSingly, Untouched, NothingWritten}
+use Rattle.precheck.specs.Batch.{Steps, stop, next, isTwelve, linesTaken, AsSingly, NothingWritten}
 
 -- ---- a line that is not refused 12
 

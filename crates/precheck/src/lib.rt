@@ -1,6 +1,5 @@
 // The pre-check's entry: a lent book is emptied, and a line is submitted to it. Nothing is required of the bytes of
 // either.
-ghost use mathlib.Core.Path.{_≡_};
 ghost use Rattle.book.specs.Emptied.{Emptied};
 ghost use Rattle.precheck.specs.Promise.{Submitted};
 use answering::answer;

@@ -1,5 +1,5 @@
--- What follows of every table from its own facts (`TableFacts`): it lies within the book and apart from the others. A table
--- is the one named or another.
+-- What follows of every table from its own facts (`TableFacts`): it lies within the book and apart from the others. A
+-- table is the one named or another.
 use Prim.Native.Nat.{_≤_}
 use mathlib.Core.Path.{_≡_, ap, sym, _∙_, subst}
 use mathlib.Core.Logic.{inl, inr, ⊎-elim}

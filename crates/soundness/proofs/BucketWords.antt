@@ -4,7 +4,7 @@ use mathlib.Core.Path.{_≡_}
 use mathlib.Core.List.{List}
 use Rattle.tables.specs.Bytes.{one, two, three, four, number}
 use Rattle.soundness.specs.Reads.{typeRead, ruleRead, rowRead, periodRead, eightAt}
-use Rattle.soundness.specs.Buckets.{keyBucket, typeBucket, ruleBucket, typeBucketOf, ruleBucketOf, frontWord, middleWord, tailWord, wrapped, folded, ownBuckets, ownBucket, rowBucket, periodBucket}
+use Rattle.soundness.specs.Buckets.{keyBucket, typeBucket, ruleBucket, typeBucketOf, ruleBucketOf, frontWord, tailWord, wrapped, folded, ownBuckets, ownBucket, rowBucket, periodBucket}
 use Rattle.soundness.proofs.SameWords.{middle-read}
 
 module _ (b : List ℕ) (at : ℕ) {r k : ℕ} (d : r ≡ keyBucket k) where

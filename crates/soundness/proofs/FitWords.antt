@@ -1,6 +1,6 @@
 -- Ranges by the numbers read at a place, and the criteria that a row's values fill.
 use Prim.Native.Nat.{ℕ, zero, suc, _+_, _*_, _^_, _≤_, _<_}
-use mathlib.Core.Path.{_≡_, refl, sym, ap, _∙_}
+use mathlib.Core.Path.{_≡_, refl, ap, _∙_}
 use mathlib.Core.Bool.{Bool, true, false, _&&_, not, and-false}
 use mathlib.Core.List.{List, [], _∷_}
 use native.Mathlib.Nat.{pow-succ'}

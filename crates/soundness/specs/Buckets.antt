@@ -1,5 +1,6 @@
 -- The bucket of a record: a number below 2048, whatever the bytes, computed from what two records that clash have in
--- common. A row's and a period's has its depository as a part, so that no chain is longer than a quota. Assumes nothing.
+-- common. A row's and a period's has its depository as a part, so that no chain is longer than a quota. Assumes
+-- nothing.
 use Prim.Native.Nat.{ℕ, _+_, _*_, _/_, _%_}
 use mathlib.Core.List.{List}
 use lib.ListN.{getD}

@@ -1,7 +1,7 @@
 // Numbers read straight from the book, lowest byte first, at an offset from a place's address.
 use basics::wide;
 ghost use mathlib.Core.Path.{_≡_};
-ghost use Prim.Native.Nat.{_+_, _*_, _≤_, _<_};
+ghost use Prim.Native.Nat.{_+_, _*_, _≤_};
 ghost use lib.ListN.{length};
 ghost use Rattle.tables.specs.Bytes.{one, two, three, four, number};
 ghost use Rattle.soundness.specs.Reads.{Bytes, eightAt};

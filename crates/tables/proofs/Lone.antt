@@ -124,7 +124,8 @@ module _ {P R : Type 0} (csd : P → ℕ) (rec : P → R) (free : P → Bool) (n
       let b = both (allBelow (λ k. free (at k) || owned k) n) (allBelow held m) e in
       all-put (λ k. free (at k) || (owned k && right k)) n (each-of-lone (b .0) (b .1)))
 
--- ---- Edits where a record stands. The places keep their order, so the lone lists are EQUAL to the edited ones, not only the same up to order.
+-- ---- Edits where a record stands. The places keep their order, so the lone lists are EQUAL to the edited ones, not
+-- only the same up to order.
 
 not-eqb : (x y : ℕ) → (x ≡ y → ⊥) → eqb x y ≡ false
 not-eqb x y h = cases (eqb x y) (λ e. absurd (h (eqb-true x y e))) (λ e. e)

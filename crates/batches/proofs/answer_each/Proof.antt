@@ -1,7 +1,6 @@
 -- `batches::answer_each` meets its contract. Assumes nothing.
 use Rattle.batches.proofs.Filling.{Going, going-first, going-on, going-out, room-for, line-inside, comes-nearer}
 use Prim.Native.Nat.{_-_}
-use native.Mathlib.Omega.{arith}
 use lib.ListN.{length}
 use borrow.Author.Needs.{needs}
 use Rattle.batches.proofs.answer_each.Statement.{statement}

@@ -1,5 +1,6 @@
 -- `desk::read_behind` meets its contract. Assumes nothing.
 use borrow.Rule.Slice.PartMut.{take-put}
+use Rattle.desk.proofs.Looping.{gave-fits}
 use borrow.Author.Needs.{needs}
 use Rattle.desk.proofs.read_behind.Statement.{statement}
 use Rattle.desk.proofs.read_behind.Tie as tie
@@ -13,8 +14,7 @@ read-behind-spec =
     (λ c. search needs)
     (λ c κs. search needs)
     (λ c κs. search needs)
-    (λ c κs. search needs)
     (λ c. search needs)
-    (λ c. search (needs, take-put))
-    (λ c. search needs)
-    (λ c. search (needs, take-put)))
+    (λ c.
+    let few = gave-fits (c .before .before .answered-by .ensures) in
+    search (needs, take-put, few)))
