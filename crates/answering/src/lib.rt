@@ -1,5 +1,5 @@
 // What is answered to a line over a book of which it is known whether it is sound. `precheck::submit` finds that out
-// for each line, `lines` once for many.
+// for each line, `lines` once for many, `batches` once for a batch.
 ghost use mathlib.Core.Path.{_≡_};
 ghost use Rattle.meaning.specs.Lone.{elsewhere};
 ghost use Rattle.answering.specs.Taking.{Took, Answers};

@@ -1,5 +1,5 @@
--- Refusal 5 as far as no single field shows it, and refusals 6 to 10 in the order of document 01's list (its 'Refused
--- lines'). Assumes nothing.
+-- Refusal 5 as far as no single field shows it, refusal 12 of a line in a batch (document 02, request a), and refusals
+-- 6 to 10 in the order of document 01's list (its 'Refused lines'). Assumes nothing.
 use Prim.Native.Nat.{ℕ}
 use mathlib.Core.Bool.{Bool, false, not, cond, _&&_, _||_}
 use mathlib.Core.List.{List, [], _∷_}

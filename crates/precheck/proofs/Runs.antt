@@ -27,9 +27,10 @@ use Rattle.book.specs.Sound.{sound}
 use Rattle.book.proofs.Lists.{book-same, list-same}
 use Rattle.book.proofs.SameBooks.{same-books, same-then}
 use Rattle.precheck.specs.Promise.{SubmittedAs, answerIn, loneAfter, leftAsFound}
-use Rattle.precheck.specs.Batch.{Steps, stop, next, Batched}
+use Rattle.precheck.specs.Batch.{Steps, stop, next, Batched, SinglyAlike}
 use Rattle.precheck.specs.Alone.{done, sent, batched, single, batch, SomeRun, OneAnswer, NobodysLine}
 use Rattle.precheck.proofs.Alone.{run-steps}
+use Rattle.precheck.proofs.Singly.{as-singly}
 use Rattle.answering.proofs.Submits.{keeps-promise, untaken-kept}
 
 -- ---- there is a run
@@ -113,10 +114,10 @@ same-back : (m n : M.Book) → SameBook m n → SameBook n m
 same-back m n s = book-same n m (λ k p. sym (list-same m n s k p))
 
 -- two books with the same records of every depository
-abbrev Alike : List ℕ → List ℕ → Type 0
-Alike b b′ = (c : ℕ) → 1 ≤ c → c ≤ 8 → SameBook (loneBook c b) (loneBook c b′)
+abbrev AlikeBooks : List ℕ → List ℕ → Type 0
+AlikeBooks b b′ = (c : ℕ) → 1 ≤ c → c ≤ 8 → SameBook (loneBook c b) (loneBook c b′)
 
-module _ (how : Sent) (b b′ : List ℕ) (s : sound b ≡ true) (s′ : sound b′ ≡ true) (h : Alike b b′) (line : List ℕ) where
+module _ (how : Sent) (b b′ : List ℕ) (s : sound b ≡ true) (s′ : sound b′ ≡ true) (h : AlikeBooks b b′) (line : List ℕ) where
   answer-alike : answerIn how b line ≡ answerIn how b′ line
   unfolding answerIn
   answer-alike =
@@ -136,32 +137,44 @@ module _ (how : Sent) (b b′ : List ℕ) (s : sound b ≡ true) (s′ : sound b
       (λ e. rw e (h c low high))
 
   next-alike : (n n′ : List ℕ) (x x′ : Answer) → SubmittedAs how b line x n → SubmittedAs how b′ line x′ n′
-      → Alike n n′
+      → AlikeBooks n n′
   next-alike n n′ x x′ t t′ c low high =
       same-then (loneBook c n) (loneAfter how c b line) (loneBook c n′) (t .records s c low high)
       (same-then (loneAfter how c b line) (loneAfter how c b′ line) (loneBook c n′) (after-alike c low high)
       (same-back (loneBook c n′) (loneAfter how c b′ line) (t′ .records s′ c low high)))
 
 sound-alike : {b b′ c c′ : List ℕ} {lines : List (Sent × List ℕ)} {as′ bs′ : List Answer} → Steps b lines as′ c
-    → Steps b′ lines bs′ c′ → sound b ≡ true → sound b′ ≡ true → Alike b b′ → as′ ≡ bs′
-sound-alike stop stop s s′ h = refl
+    → Steps b′ lines bs′ c′ → sound b ≡ true → sound b′ ≡ true → AlikeBooks b b′ → (as′ ≡ bs′) × AlikeBooks c c′
+sound-alike stop stop s s′ h = (refl, h)
 sound-alike (next {line = line} {how = how} t r) (next t′ r′) s s′ h =
-    ap₂ _∷_ (t .answered ∙ answer-alike how _ _ s s′ h line ∙ sym (t′ .answered))
-    (sound-alike r r′ (t .stays s) (t′ .stays s′) (next-alike how _ _ s s′ h line _ _ _ _ t t′))
+    let i = sound-alike r r′ (t .stays s) (t′ .stays s′) (next-alike how _ _ s s′ h line _ _ _ _ t t′) in
+    (ap₂ _∷_ (t .answered ∙ answer-alike how _ _ s s′ h line ∙ sym (t′ .answered)) (i .0), i .1)
 
--- over a book that isn't sound every answer is refusal 1
+-- over a book that isn't sound every answer is refusal 1, and every byte stays
 unsound-refused : {b c : List ℕ} {lines : List (Sent × List ℕ)} {as′ : List Answer} → Steps b lines as′ c
-    → sound b ≡ false → as′ ≡ replicate (length lines) (Refused 1)
+    → sound b ≡ false → (as′ ≡ replicate (length lines) (Refused 1)) × (c ≡ b)
 unfolding answerIn leftAsFound
-unsound-refused stop s = refl
+unsound-refused stop s = (refl, refl)
 unsound-refused (next {book = b} {line = line} t r) s =
     let kept = t .kept (rw s) in
-    ap₂ _∷_ (rw s at (t .answered)) (unsound-refused r (ap sound kept ∙ s))
+    let i = unsound-refused r (ap sound kept ∙ s) in
+    (ap₂ _∷_ (rw s at (t .answered)) (i .0), i .1 ∙ kept)
+
+-- the same lines sent twice to one book
+pub steps-alike : {b c c′ : List ℕ} {lines : List (Sent × List ℕ)} {as′ bs′ : List Answer} → Steps b lines as′ c
+    → Steps b lines bs′ c′ → (as′ ≡ bs′) × AlikeBooks c c′
+steps-alike {b = b} t t′ =
+    cases (sound b)
+    (λ s. sound-alike t t′ s s (λ d low high. same-books refl))
+    (λ s.
+    let i = unsound-refused t s in
+    let j = unsound-refused t′ s in
+    (i .0 ∙ sym (j .0), λ d low high. same-books (ap (loneBook d) (i .1 ∙ sym (j .1)))))
 
 pub one-answer : OneAnswer
-one-answer book calls as′ bs′ r r′ =
-    let t = run-steps r .steps in
-    let t′ = run-steps r′ .steps in
-    cases (sound book)
-    (λ s. sound-alike t t′ s s (λ c low high. same-books refl))
-    (λ s. unsound-refused t s ∙ sym (unsound-refused t′ s))
+one-answer book calls as′ bs′ r r′ = steps-alike (run-steps r .steps) (run-steps r′ .steps) .0
+
+pub singly-alike : SinglyAlike
+singly-alike b csd lines xs ys c c′ t t′ =
+    let i = steps-alike t′ (as-singly b csd lines xs c t) in
+    record { answered = i .0; records = i .1 }

@@ -1,7 +1,7 @@
 -- What `submit_batch` (crate `batches`) promises, for any bytes as the book, the text and the answer space: a batch of
 -- lines from one depository is taken in order, each line as if it was sent singly, but for 12 (document 02, request a).
 -- Assumes nothing.
-use Prim.Native.Nat.{ℕ}
+use Prim.Native.Nat.{ℕ, _≤_}
 use mathlib.Core.Path.{_≡_}
 use mathlib.Core.Bool.{Bool, false, cond, not}
 use mathlib.Core.List.{List, [], _∷_}
@@ -9,6 +9,7 @@ use lib.Dec.{eqb}
 use lib.ListN.{length}
 use Rattle.tables.specs.Count.{keep}
 use Rattle.meaning.specs.Desk.{linesOf}
+use Rattle.meaning.specs.SameBook.{SameBook}
 use Rattle.meaning.specs.Batch.{fits, batchResult, batchLines, spaceAfter}
 use Rattle.meaning.specs.Lone.{told}
 use Rattle.meaning.specs.declared.Answer.{Answer}
@@ -17,6 +18,7 @@ use Rattle.meaning.specs.declared.Batch.{Batch}
 use Rattle.meaning.specs.declared.Batch.the-variants as Result
 use Rattle.meaning.specs.declared.Sent.{Sent}
 use Rattle.meaning.specs.declared.Sent.the-variants.{Alone, InBatch}
+use Rattle.book.specs.Lone.{loneBook}
 use Rattle.precheck.specs.Promise.{SubmittedAs}
 
 -- lines sent one after the other, each told how, with their answers, from one book to another: each step is exactly
@@ -58,6 +60,19 @@ AsSingly =
     (before : List ℕ) (csd : ℕ) (lines : List (List ℕ)) (answers : List Answer) (after : List ℕ)
     → Steps before (told (InBatch csd) lines) answers after
     → Steps before (told Alone (linesTaken lines answers)) (keep (λ x. not (isTwelve x)) answers) after
+
+-- and whoever sends those lines singly to the same book gets no other answers, and leaves the same records of every
+-- depository
+pub record Alike (answers others : List Answer) (after left : List ℕ) : Type 0 where
+  pub answered : others ≡ answers
+  pub records : (c : ℕ) → 1 ≤ c → c ≤ 8 → SameBook (loneBook c left) (loneBook c after)
+
+abbrev pub SinglyAlike : Type 0
+SinglyAlike =
+    (before : List ℕ) (csd : ℕ) (lines : List (List ℕ)) (answers others : List Answer) (after left : List ℕ)
+    → Steps before (told (InBatch csd) lines) answers after
+    → Steps before (told Alone (linesTaken lines answers)) others left
+    → Alike (keep (λ x. not (isTwelve x)) answers) others after left
 
 -- ---- a batch that is refused 11
 
