@@ -85,7 +85,7 @@ nobodys-line line h =
     t .answered ∙ ap (λ z. cond (sound b) (z .answer) (Refused 1)) (u .everywhere how (loneBook (depository line) b)) in
     record {
       refusal = u .refusal;
-      low = u .low;
+      low = omega (arith, u .low);
       high = u .high;
       answered = said;
       kept = λ how b b′ x t.

@@ -91,15 +91,20 @@ module _ (lines : List (List ℕ)) (b : List ℕ) (l : LeftBy lines b) where
 
 -- ---- an answer, by the lone book after the lines that name the depository
 
-refuted : (a : ℕ) → 1 ≤ a → a ≤ 8 → (lines : List (List ℕ)) (line right wrong : List ℕ) → names a line ≡ true
-    → printed (step (after M.empty (keep (names a) lines)) line .answer) ≡ right → same right wrong ≡ false
-    → Refuted lines line right wrong
-refuted a low high lines line right wrong n y d =
+-- the line names the depository, and what its lone book answers is printed `right`, which is not `wrong`
+pub record Computed (a : ℕ) (lines : List (List ℕ)) (line right wrong : List ℕ) : Type 0 where
+  pub own : names a line ≡ true
+  pub answer : printed (step (after M.empty (keep (names a) lines)) line .answer) ≡ right
+  pub other : same right wrong ≡ false
+
+refuted : (a : ℕ) → 1 ≤ a → a ≤ 8 → {lines : List (List ℕ)} {line right wrong : List ℕ}
+    → Computed a lines line right wrong → Refuted lines line right wrong
+refuted a low high {lines} {line} {right} {wrong} c =
     let one : (b b′ : List ℕ) (x : Answer) → LeftBy lines b → Submitted b line x b′ → printed x ≡ right =
-    λ b b′ x l t. ap printed (answer-held lines b l a low high line b′ x t n) ∙ y in
+    λ b b′ x l t. ap printed (answer-held lines b l a low high line b′ x t (c .own)) ∙ c .answer in
     record {
       only = one;
-      never = λ b b′ x l e t. false≢true (sym d ∙ ap (same right) (sym e ∙ one b b′ x l t) ∙ same-self right);
+      never = λ b b′ x l e t. false≢true (sym (c .other) ∙ ap (same right) (sym e ∙ one b b′ x l t) ∙ same-self right);
     }
 
 -- ---- what is left, by the number of types
@@ -136,19 +141,19 @@ pub tries : Tries
 unfolding deskLines ruleLine ruleLines names keep after step printed
 tries = record {
   books = some-left;
-  accepts-every-question = refuted 2 (omega arith) (omega arith) _ _ _ _ refl refl refl;
-  refuses-every-line = λ n. refuted 2 (omega arith) (omega arith) _ _ _ _ refl refl refl;
+  accepts-every-question = refuted 2 (omega arith) (omega arith) (record { own = refl; answer = refl; other = refl });
+  refuses-every-line = λ n. refuted 2 (omega arith) (omega arith) (record { own = refl; answer = refl; other = refl });
   stores-nothing = stores-nothing;
-  says-ten = refuted 2 (omega arith) (omega arith) _ _ _ _ refl refl refl;
-  never-ten = refuted 2 (omega arith) (omega arith) _ _ _ _ refl refl refl;
+  says-ten = refuted 2 (omega arith) (omega arith) (record { own = refl; answer = refl; other = refl });
+  never-ten = refuted 2 (omega arith) (omega arith) (record { own = refl; answer = refl; other = refl });
 }
 
 pub slips : Slips
 unfolding kelerBook movedLines ruleLine ruleLines names keep after step printed
 slips = record {
-  first-match = refuted 1 (omega arith) (omega arith) _ _ _ _ refl refl refl;
-  every-status = refuted 1 (omega arith) (omega arith) _ _ _ _ refl refl refl;
-  neighbours-quota = refuted 2 (omega arith) (omega arith) _ _ _ _ refl refl refl;
-  first-stored = refuted 2 (omega arith) (omega arith) _ _ _ _ refl refl refl;
+  first-match = refuted 1 (omega arith) (omega arith) (record { own = refl; answer = refl; other = refl });
+  every-status = refuted 1 (omega arith) (omega arith) (record { own = refl; answer = refl; other = refl });
+  neighbours-quota = refuted 2 (omega arith) (omega arith) (record { own = refl; answer = refl; other = refl });
+  first-stored = refuted 2 (omega arith) (omega arith) (record { own = refl; answer = refl; other = refl });
   neighbour-changed = neighbour-changed;
 }

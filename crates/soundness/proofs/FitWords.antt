@@ -19,13 +19,16 @@ use Rattle.records.specs.Said.{typeOf, ruleOf, rowOf, periodOf}
 use Rattle.soundness.specs.Reads.{typeRead, ruleRead, rowRead, periodRead, keyHolds}
 use Rattle.soundness.specs.Alike.{noCriteria, filledIn, filledOr, oneMore}
 
+pub hold-fits : (p o : ℕ) {r h : Bool} → r ≡ not h → h ≡ (eqb p 3 && eqb o 2) → r ≡ not (eqb p 3 && eqb o 2)
+hold-fits p o e f = rw (e, f)
+
 module _ (b : List ℕ) (at : ℕ) where
-  pub type-fits : {x o p f l : ℕ} {r k y z d s n h : Bool} → r ≡ (k && y) → y ≡ (z && d) → z ≡ (s && n)
-      → s ≡ within 1 3 p → n ≡ not h → h ≡ (eqb p 3 && eqb o 2) → k ≡ keyFits x o → d ≡ daysFit f l
+  pub type-fits : {x o p f l : ℕ} {r k y z d s n : Bool} → r ≡ (k && y) → y ≡ (z && d) → z ≡ (s && n)
+      → s ≡ within 1 3 p → n ≡ not (eqb p 3 && eqb o 2) → k ≡ keyFits x o → d ≡ daysFit f l
       → x ≡ number one b at 1 → o ≡ number one b at 2 → p ≡ number one b at 3 → f ≡ number four b at 4 → l ≡ number four b at 8
       → r ≡ typeFits (typeOf (typeRead b at))
   unfolding typeFits typeOf typeRead holds
-  type-fits e f g h i j k l m n o p q = rw (e, f, g, h, i, j, k, l, m, n, o, p, q)
+  type-fits e f g h i k l m n o p q = rw (e, f, g, h, i, k, l, m, n, o, p, q)
 
   pub key-fits : {x o q : ℕ} {r k s : Bool} → r ≡ (k && s) → k ≡ keyFits x o → s ≡ within 1 99 q → x ≡ number one b at 1
       → o ≡ number one b at 2 → q ≡ number one b at 3 → r ≡ keyHolds b at

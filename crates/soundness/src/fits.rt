@@ -17,7 +17,9 @@ use ranges::is_code;
 use ranges::key_fits;
 use ranges::three_letters;
 ghost use mathlib.Core.Path.{_≡_};
+ghost use mathlib.Core.Bool.{_&&_, not};
 ghost use Prim.Native.Nat.{_+_, _*_, _≤_};
+ghost use lib.Dec.{eqb};
 ghost use lib.ListN.{length, drop};
 ghost use Rattle.meaning.specs.Forms.{holds, optional, upTo, code, transactionForm, currencyForm, tenValues};
 ghost use Rattle.meaning.specs.Sound.{typeFits, ruleFits, periodFits};
@@ -30,16 +32,22 @@ ghost use Rattle.soundness.specs.Alike.{noCriteria, criteriaRoom, filled
 pub(crate) const NO_CRITERIA: u32 = 1024;
 
 // A party hold is of instructions only.
+fn hold_fits(processing: u8, object: u8) -> bool
+    ensures { λ r. ⌜ r ≡ not (eqb processing 3 && eqb object 2) ⌝ }
+{
+    no(and(
+        processing == RestrictionType::PARTY_HOLD,
+        object == RestrictionType::RESTRICTION,
+    ))
+}
+
 pub(crate) fn type_fits(b: &[u8], at: usize) -> bool
     requires { ⌜ at + typeWidth ≤ length (now b) ⌝ }
     ensures { λ r. ⌜ r ≡ typeFits (typeOf (typeRead (now (b .entry)) at)) ⌝ }
 {
     let object = one(b, at, 2);
     let processing = one(b, at, 3);
-    let held = no(and(
-        processing == RestrictionType::PARTY_HOLD,
-        object == RestrictionType::RESTRICTION,
-    ));
+    let held = hold_fits(processing, object);
     let known = byte_within(
         RestrictionType::REJECTION,
         RestrictionType::PARTY_HOLD,
