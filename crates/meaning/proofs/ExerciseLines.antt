@@ -63,7 +63,8 @@ accepted (taking {b = b} {how = how} {line = line} {lines = lines} {k = k} {ks =
     let one = read-taken how b line (reading line) k refl e t in
     (one .range, one .free, subst (λ d. Accepted d ks (afterSent b ((how, line) ∷ lines))) (one .left) (accepted rest))
 accepted (passing {b = b} {how = how} {line = line} {lines = lines} {ks = ks} e rest) =
-    subst (λ d. Accepted b ks (afterSent d lines)) (sym e) (accepted rest)
+    let left : Accepted b ks (afterSent b lines) = accepted rest in
+    subst (λ d. Accepted b ks (afterSent d lines)) (sym e) left
 
 -- ---- questions
 
