@@ -44,7 +44,7 @@ NUMBERS = {"P": PARTIES, "A": ACCOUNTS, "S": SECURITIES}
 CODES = {"P": [101, 102, 111], "A": [201, 202, 9999], "S": [301, 302, 310]}
 CRITERIA = [64, 64, 128, 128, 256, 1, 2, 4, 6, 8, 8, 16, 32, 512, 3, 5, 40, 72, 130, 136, 448, 1023]
 WRONG = ["", "0", "1", "2", "3", "4", "8", "9", "00", "01", "05", "99", "100", "101", "199", "200", "300", "1000", "1023", "1024", "9900",
-         "9999", "10000", "10001", "999999", "1000000", "0999999", "18446744073709551617", "4294967297", "P", "N", "A", "S", "X", "PP",
+         "9999", "10000", "10001", "999999", "1000000", "0999999", "18446744073709551617", "4294967297", "P", "N", "A", "S", "X", "Y", "YN", "PP",
          "DELI", "RECE", "APMT", "FREE", "CORP", "CORPS", "COR", "COR1", "EUR", "EU", "EURO", "E1R", "20200301"]
 
 
@@ -200,7 +200,8 @@ class Lines:
                     asked[place] = r.choice(with_code)
         if kind == 2:
             asked[1] = asked[2] = ""
-        return [kind, *asked[:4], asked[9], asked[6], asked[5], asked[4]]
+        wishes = [r.choice(["Y", "N", ""]), r.choice(["Y", "N"])] if self.chance(30) else []
+        return [kind, *asked[:4], asked[9], asked[6], asked[5], asked[4], *wishes]
 
     def byte(self):
         """Any byte but 10; often one that is allowed or nearly so."""

@@ -1,4 +1,5 @@
-// A conventional restriction pre-check, written from document 01 and the readings of docs/DECISIONS.md alone.
+// A conventional restriction pre-check, written from document 01, request b of document 02 and the readings of
+// docs/DECISIONS.md alone.
 // It shares no code with crates/ and nothing about it is proved. It is built by
 //     rustc -O --edition 2021 main.rs
 // and run as `conventional flat|maps < LINES`.
@@ -86,6 +87,9 @@ struct Question {
     party: u32,
     account: u32,
     security: u32,
+    // Hold indicator (0 where it is empty) and account default: 1 for Y, 2 for N. None where the line has no such
+    // fields.
+    wishes: Option<(u32, u32)>,
 }
 
 enum Line {
@@ -110,8 +114,8 @@ struct Deciding {
 enum Answer {
     Kept,
     Refused(u8),
-    // Rejection, validation hold, party hold; zeros where there is none.
-    Verdict([Deciding; 3]),
+    // Rejection, validation hold, party hold; zeros where there is none. Then the status, where it is asked for.
+    Verdict([Deciding; 3], Option<bool>),
 }
 
 // ---------------------------------------------------------------- reading a line
@@ -303,7 +307,14 @@ fn fields(letter: u8, f: &[&[u8]]) -> Option<Line> {
             let security = number(f[11], 1, 999_999)?;
             values[4] = security;
             values[5] = account;
-            Line::Ask(Question { csd, day: today, object, values, party, account, security })
+            let wishes = match f.get(12..) {
+                Some([indicator, default]) => {
+                    let wish = |field| one_of(field, b"Y", b"N");
+                    Some((if indicator.is_empty() { 0 } else { wish(indicator)? }, wish(default)?))
+                }
+                _ => None,
+            };
+            Line::Ask(Question { csd, day: today, object, values, party, account, security, wishes })
         }
     };
     Some(line)
@@ -337,7 +348,8 @@ fn read(bytes: &[u8]) -> Result<Line, u8> {
         b'Q' => 11,
         _ => return Err(3),
     };
-    if count != wanted {
+    let longer = letter == b'Q' && count == wanted + 2;
+    if count != wanted && !longer {
         return Err(4);
     }
     fields(letter, &kept[..count]).ok_or(5)
@@ -374,13 +386,19 @@ fn matches(values: &Values, q: &Question, covered: impl Fn(u8, u32, u32) -> bool
     })
 }
 
-// Rejection comes before the holds and hides them.
-fn verdict(mut decided: [Deciding; 3]) -> Answer {
-    if decided[0].number != 0 {
+// Rejection comes before the holds and hides them. On party hold is what is not rejected and is held by a rule, by the
+// indicator or, where that is empty, by the account's default.
+fn verdict(mut decided: [Deciding; 3], q: &Question) -> Answer {
+    let rejected = decided[0].number != 0;
+    if rejected {
         decided[1] = Deciding::default();
         decided[2] = Deciding::default();
     }
-    Answer::Verdict(decided)
+    let status = q.wishes.map(|(indicator, default)| {
+        let wished = if indicator == 0 { default } else { indicator };
+        !rejected && (decided[2].number != 0 || wished == 1)
+    });
+    Answer::Verdict(decided, status)
 }
 
 // ---------------------------------------------------------------- flat
@@ -742,7 +760,7 @@ impl Flat {
                 *d = Deciding { number: t.number, sequence };
             }
         }
-        verdict(decided)
+        verdict(decided, q)
     }
 }
 
@@ -925,7 +943,7 @@ impl Depository {
                 }
             }
         }
-        verdict(decided)
+        verdict(decided, q)
     }
 }
 
@@ -968,16 +986,21 @@ fn print(out: &mut impl Write, answer: &Answer) -> io::Result<()> {
     match answer {
         Answer::Kept => writeln!(out, "K"),
         Answer::Refused(n) => writeln!(out, "F,{n}"),
-        Answer::Verdict([r, v, p]) => writeln!(
+        Answer::Verdict([r, v, p], status) => writeln!(
             out,
-            "V,{},{},{},{},{},{},{}",
+            "V,{},{},{},{},{},{},{}{}",
             if r.number != 0 { 'R' } else { 'A' },
             r.number,
             r.sequence,
             v.number,
             v.sequence,
             p.number,
-            p.sequence
+            p.sequence,
+            match status {
+                None => "",
+                Some(true) => ",Y",
+                Some(false) => ",N",
+            }
         ),
     }
 }
