@@ -13,7 +13,7 @@ EACH = 8
 LETTERS = b"TERODMNAZQ"
 
 
-# ---- document 01's forms of a field
+# ---- the forms of a field (document 01, and of the wishes document 02, request b)
 
 def up_to(most):
     return lambda f: f.isdigit() and f[:1] != b"0" and int(f) <= most
@@ -63,6 +63,9 @@ FORMS = {
     + [optional(f) for f in (MOVEMENT, PAYMENT, letters(4), letters(3))]
     + [up_to(999999)] * 3,
 }
+WISH = one_of(b"Y N")
+# Q with hold indicator and account default
+LONGER = FORMS[b"Q"] + [optional(WISH), WISH]
 
 
 def shown(line, refusal):
@@ -70,8 +73,9 @@ def shown(line, refusal):
     head, *fields = line.split(b",")
     if refusal in (2, 3, 4):
         return b"%d" % refusal
-    assert len(FORMS[head]) == len(fields)
-    of_form = all(form(f) for form, f in zip(FORMS[head], fields))
+    forms = LONGER if head == b"Q" and len(fields) == len(LONGER) else FORMS[head]
+    assert len(forms) == len(fields)
+    of_form = all(form(f) for form, f in zip(forms, fields))
     assert of_form or refusal == 5
     return head if of_form else b"5"
 
@@ -86,7 +90,8 @@ def lines(name):
         yield line, int(answer[2:]) if answer in (b"F,2", b"F,3", b"F,4", b"F,5") else 0
 
 
-# document 01: the desk example is read; 80 and 81 bytes; leap years; no leading zeros; a code's value; the last field
+# document 01: the desk example is read; 80 and 81 bytes; leap years; no leading zeros; a code's value; the last field;
+# document 02, request b: the indicator may be empty, the default may not
 BY_HAND = [
     (b"", 2),
     (b"A" * 80, 3),
@@ -114,9 +119,16 @@ BY_HAND = [
     (b"Q,2,20170207,1,2,DELL,FREE,,EUR,11,20,30", 5),
     (b"Q,2,20170207,1,2,DELI,FREE,,EUR,11,20,0", 5),
     (b"Q,2,20170207,1,2,DELI,FREE,,EUR,11,20,1000000", 5),
+    (b"Q,2,20170207,1,2,DELI,FREE,,EUR,11,20,30,Y,N", 0),
+    (b"Q,2,20170207,2,2,,,,EUR,11,20,30,,Y", 0),
+    (b"Q,2,20170207,1,2,DELI,FREE,,EUR,11,20,30,Y", 4),
+    (b"Q,2,20170207,1,2,DELI,FREE,,EUR,11,20,30,Y,", 5),
+    (b"Q,2,20170207,1,2,DELI,FREE,,EUR,11,20,30,YN,Y", 5),
+    (b"Q,2,20170207,1,2,,FREE,,EUR,11,20,30,Y,N", 5),
 ]
-# the desk example's answers that the program prints, and the longest one
-PRINTED = [b"K", b"F,8", b"F,10", b"V,A,0,0,0,0,9,5", b"V,A,0,0,0,0,0,0", b"V,R,255,99,100,10,9,1"]
+# the desk example's answers that the program prints, one with each status, and the longest one
+PRINTED = [b"K", b"F,8", b"F,10", b"V,A,0,0,0,0,9,5", b"V,A,0,0,0,0,0,0", b"V,A,0,0,0,0,0,0,N",
+           b"V,R,255,199,200,210,220,230,Y"]
 
 taken, seen = [], {}
 for name in ("mixed-1", "mixed-2"):

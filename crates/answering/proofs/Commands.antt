@@ -12,13 +12,15 @@ use Rattle.meaning.specs.Records.{questionIn}
 use Rattle.meaning.specs.Refusals.{refusal}
 use Rattle.meaning.specs.Edits.{edited}
 use Rattle.meaning.specs.Judging.{judged}
+use Rattle.meaning.specs.Status.{answerTo}
 use Rattle.meaning.specs.Lone.{elsewhere, replied, reply, unless, taken, isSome}
 use Rattle.meaning.specs.Sound.{soundLone}
 use Rattle.meaning.specs.declared.Answer.{Answer}
-use Rattle.meaning.specs.declared.Answer.the-variants.{Taken, Refused, Judged}
+use Rattle.meaning.specs.declared.Answer.the-variants.{Taken, Refused}
 use Rattle.meaning.specs.declared.Sent.{Sent}
 use Rattle.meaning.specs.declared.Sent.the-variants.{Alone, InBatch}
 use Rattle.meaning.specs.declared.Verdict.{Verdict}
+use Rattle.meaning.specs.declared.Wishes.{Wishes}
 use Rattle.commands.specs.Asked.{asked, questionAsked, questionOf}
 use Rattle.commands.specs.declared.Question.{Question}
 use Rattle.commands.specs.declared.What.{What}
@@ -46,8 +48,8 @@ unfolding elsewhere
 elsewhere-batch s r csd c e f = rw e f
 
 -- the code's test for a question
-pub question-of : (x : What) (q : Question) → x ≡ What.Ask q → questionAsked x ≡ some q
-question-of x q e = ap questionAsked e
+pub question-of : (x : What) (q : Question) (w : Wishes) → x ≡ What.Ask q w → questionAsked x ≡ some (q, w)
+question-of x q w e = ap questionAsked e
 
 unless-refused : (n : ℕ) (m : M.Book) (k : M.Command) → (n ≡ 0 → ⊥)
     → unless n m k ≡ record { answer = Refused n; book = m }
@@ -114,18 +116,19 @@ module _ (b : List ℕ) (c : Command) where
               };
         }
 
-    -- by what `judge` ensures
-    pub took-question : (q : Question) (v : Verdict) → questionAsked (c .what) ≡ some q → v ≡ judgedBy b q
-        → (soundLone (loneBook (q .csd) b) ≡ true → v ≡ judged (loneBook (q .csd) b) (questionOf q))
-        → Took b c (Judged v) b
-    unfolding replyTo reply replied
-    took-question q v e f g =
-        let i : questionIn k ≡ some (questionOf q) = asked-question (c .day) (c .row) (c .what) ∙ ap asMeant e in
+    -- by what `judge` and `answer_to` ensure
+    pub took-question : (q : Question) (w : Wishes) (v : Verdict) (x : Answer) → questionAsked (c .what) ≡ some (q, w)
+        → v ≡ judgedBy b q → (soundLone (loneBook (q .csd) b) ≡ true → v ≡ judged (loneBook (q .csd) b) (questionOf q))
+        → x ≡ answerTo v w → Took b c x b
+    unfolding replyTo repliedTo reply replied
+    took-question q w v x e f g h =
+        let i : questionIn k ≡ some (questionOf q, w) = asked-question (c .day) (c .row) (c .what) ∙ ap asMeant e in
         let left : b ≡ editIn b (c .csd) k = sym (question-left b (c .csd) k (ap isSome i)) in
-        took b (Judged v) (rw (e, f)) left
+        took b x (rw (e, ← f) h) left
         (λ y.
-        let right = g (rw (y .own q e) (sound-lone b (y .book) (c .csd) (y .low) (y .high))) in
-        ap Judged (right ∙ ap (λ z. judged (loneBook z b) (questionOf q)) (y .own q e)) ∙ ap (replied m) (sym i))
+        let right = g (rw (y .own q w e) (sound-lone b (y .book) (c .csd) (y .low) (y .high))) in
+        h ∙ ap (λ z. answerTo z w) (right ∙ ap (λ z. judged (loneBook z b) (questionOf q)) (y .own q w e))
+        ∙ ap (replied m) (sym i))
         (λ y. edit-meant b b c left (accepted y))
 
     -- by what `edit` ensures
@@ -138,12 +141,12 @@ module _ (b : List ℕ) (c : Command) where
 
     -- ---- what is answered and left by definition
 
-    took-reply : (o : Option Question) → questionAsked (c .what) ≡ o → Took b c (repliedTo b o) (editIn b (c .csd) k)
+    took-reply : (o : Option (Question × Wishes)) → questionAsked (c .what) ≡ o → Took b c (repliedTo b o) (editIn b (c .csd) k)
     unfolding repliedTo
     took-reply none e = took-edit (editIn b (c .csd) k) e refl (edit-left b (c .csd) k)
-    took-reply (some q) e =
-        let i : questionIn k ≡ some (questionOf q) = asked-question (c .day) (c .row) (c .what) ∙ ap asMeant e in
-        rw (question-left b (c .csd) k (ap isSome i)) (took-question q (judgedBy b q) e refl (judged-right b q))
+    took-reply (some (q, w)) e =
+        let i : questionIn k ≡ some (questionOf q, w) = asked-question (c .day) (c .row) (c .what) ∙ ap asMeant e in
+        rw (question-left b (c .csd) k (ap isSome i)) (took-question q w (judgedBy b q) _ e refl (judged-right b q) refl)
 
   pub took-any : Took b c (answerOf b c) (bytesAfter b c)
   unfolding answerOf bytesAfter refusalOf replyTo

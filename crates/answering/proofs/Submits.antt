@@ -23,6 +23,7 @@ use Rattle.meaning.proofs.Ranges.{reading-ranged, reading-fits}
 use Rattle.meaning.proofs.Names.{reading-csd, reading-names, reading-depository, names-depository}
 use Rattle.meaning.proofs.HowSent.{refused12, refusal-here, taken-here, taken-elsewhere, read-sent}
 use Rattle.commands.specs.Asked.{asked, coded, letterFor}
+use Rattle.meaning.specs.declared.Wishes.{Wishes}
 use Rattle.commands.specs.declared.Question.{Question}
 use Rattle.commands.specs.declared.Command.{Command}
 use Rattle.commands.proofs.Decoded.{letter-for}
@@ -41,13 +42,13 @@ use Rattle.answering.proofs.Commands.{took-any}
 
 -- ---- the depository of a question
 
-abbrev csdIn : ℕ → Option Question → ℕ
+abbrev csdIn : ℕ → Option (Question × Wishes) → ℕ
 csdIn c none = c
-csdIn c (some q) = q .csd
+csdIn c (some a) = a .0 .csd
 
-own-csd : (c : ℕ) (q : Option M.Question) → csdIn c (asOn c q) ≡ c
+own-csd : (c : ℕ) (q : Option (M.Question × Wishes)) → csdIn c (asOn c q) ≡ c
 own-csd c none = refl
-own-csd c (some q) = refl
+own-csd c (some (q, w)) = refl
 
 -- ---- the promise, by what is read
 
@@ -154,7 +155,7 @@ module _ (how : Sent) (b line : List ℕ) (l : Letter) (v : List ℕ) (s : sound
         low = low;
         high = high;
         fits = ap fits same ∙ reading-fits line l v e;
-        own = λ q f. sym (ap (csdIn c) (sym (question-coded c k) ∙ f)) ∙ own-csd c (questionIn k);
+        own = λ q w f. sym (ap (csdIn c) (sym (question-coded c k) ∙ f)) ∙ own-csd c (questionIn k);
       }
 
   kept : away ≡ false → (b′ : List ℕ) → b′ ≡ bytesAfter b d → leftAsFound how b line ≡ true → b′ ≡ b
@@ -331,7 +332,7 @@ keeps-promise how b line =
 -- ---- an answer other than K: every byte is left
 
 -- any other command is replied K
-none-replied : (m : M.Book) (q : Option M.Question) → isSome q ≡ false → replied m q ≡ Taken
+none-replied : (m : M.Book) (q : Option (M.Question × Wishes)) → isSome q ≡ false → replied m q ≡ Taken
 unfolding replied
 none-replied m none e = refl
 none-replied m (some q) e = absurd (false≢true (sym e))

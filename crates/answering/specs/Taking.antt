@@ -8,9 +8,11 @@ use lib.Dec.{eqb}
 use Rattle.meaning.specs.Reading.{numbersRead}
 use Rattle.meaning.specs.Refusals.{wrong, refusal}
 use Rattle.meaning.specs.Edits as meant
+use Rattle.meaning.specs.Status.{answerTo}
 use Rattle.meaning.specs.Lone.{elsewhere, taken}
+use Rattle.meaning.specs.declared.Wishes.{Wishes}
 use Rattle.meaning.specs.declared.Answer.{Answer}
-use Rattle.meaning.specs.declared.Answer.the-variants.{Taken, Refused, Judged}
+use Rattle.meaning.specs.declared.Answer.the-variants.{Taken, Refused}
 use Rattle.meaning.specs.declared.Sent.{Sent}
 use Rattle.commands.specs.Asked.{asked, questionAsked, letterFor, commandFrom}
 use Rattle.commands.specs.declared.Question.{Question}
@@ -31,10 +33,11 @@ use Rattle.answering.specs.Promise.{SubmittedAs}
 unfoldable pub refusalOf : List ℕ → Command → ℕ
 refusalOf b c = refusal (loneBook (c .csd) b) (asked c)
 
--- what is replied where none holds, over the book as it is: a question's verdict, or K
-unfoldable pub repliedTo : List ℕ → Option Question → Answer
+-- what is replied where none holds, over the book as it is: a question's verdict, and the status where it carries the
+-- wishes; or K
+unfoldable pub repliedTo : List ℕ → Option (Question × Wishes) → Answer
 repliedTo b none = Taken
-repliedTo b (some q) = Judged (judgedBy b q)
+repliedTo b (some (q, w)) = answerTo (judgedBy b q) w
 
 unfoldable pub replyTo : List ℕ → What → Answer
 unfolding repliedTo
@@ -54,7 +57,7 @@ pub record Ready (b : List ℕ) (c : Command) : Type 0 where
   pub low : 1 ≤ c .csd
   pub high : c .csd ≤ 8
   pub fits : meant.fits (asked c) ≡ true
-  pub own : (q : Question) → questionAsked (c .what) ≡ some q → q .csd ≡ c .csd
+  pub own : (q : Question) (w : Wishes) → questionAsked (c .what) ≡ some (q, w) → q .csd ≡ c .csd
 
 -- what the meaning says of it over the depository's lone book: the answer, and what is left of every lone book; and the
 -- book stays sound

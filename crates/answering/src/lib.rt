@@ -13,9 +13,10 @@ use line::read_line;
 use meaning::Answer;
 use meaning::Sent;
 use refusals::refusal;
+use status::answer_to;
 
-// What a command does to a book: the first refusal that holds is the answer, and the book stays; else a question gets
-// its verdict, of which nothing is stored, and any other command is stored and gets K.
+// What a command does to a book: the first refusal that holds is the answer, and the book stays; else a question is
+// answered, with the status where it carries the wishes, and nothing is stored; any other command is stored and gets K.
 fn take(book: &mut [u8], c: Command) -> Answer
     ensures { λ r. ⌜ Took (now (book .entry)) c r (now (book .exit)) ⌝ }
 {
@@ -24,8 +25,8 @@ fn take(book: &mut [u8], c: Command) -> Answer
         return Answer::Refused(n);
     }
     let what = c.what;
-    if let What::Ask(q) = what {
-        return Answer::Judged(judge(book, q));
+    if let What::Ask(q, wishes) = what {
+        return answer_to(judge(book, q), wishes);
     }
     edit(book, c);
     Answer::Taken

@@ -8,9 +8,10 @@ use lib.Dec.{eqb, ltb}
 use borrow.Author.Tests.{ne-eqb}
 use Rattle.tables.proofs.Counts.{cases}
 use Rattle.meaning.specs.Text.{bytes, same}
-use Rattle.meaning.specs.Forms.{Letter, letterT, letterE, letterR, letterO, letterD, letterM, letterN, letterA, letterZ, letterQ, letterText, letterByte, Shape, shapeT, shapeE, shapeR, shapeO, shapeD, shapeM, shapeN, shapeA, shapeZ, shapeQ, hasLetter, firstShape}
+use Rattle.meaning.specs.Forms.{Letter, letterT, letterE, letterR, letterO, letterD, letterM, letterN, letterA, letterZ, letterQ, letterText, letterByte, Shape, shapeT, shapeE, shapeR, shapeO, shapeD, shapeM, shapeN, shapeA, shapeZ, shapeQWishes, shapeQ, hasLetter, firstShape}
 use Rattle.meaning.specs.Records.{_!_, commandOf}
 use Rattle.meaning.specs.Refusals.{wrong}
+use Rattle.meaning.specs.declared.Wishes.{Wishes}
 use Rattle.records.specs.Said.{typeOf, ruleOf, periodOf}
 use Rattle.places.specs.declared.RestrictionType.{RestrictionType}
 use Rattle.places.specs.declared.Rule.{Rule}
@@ -46,6 +47,7 @@ module _ (v : List ℕ) (c : ℕ) where
 
   pub made-question : (o : ℕ) → o ≡ v ! 2 % 256 → c ≡ v ! 0 % 256
       → What.Ask (record { csd = c; day = v ! 1; object = o; role = v ! 3; movement = v ! 4; payment = v ! 5; transaction = v ! 6; currency = v ! 7; party = v ! 8; account = v ! 9; security = v ! 10 })
+      (record { indicator = v ! 11; default = v ! 12 })
       ≡ whatOf (v ! 0 % 256) (commandOf letterQ v)
   unfolding whatOf commandOf
   made-question o e f = rw (e, f)
@@ -114,7 +116,7 @@ pub none-Q : (n : ℕ) → NoneOf (bytes "ZANMDORET") n → letterFor n ≡ lett
 unfolding letterFor
 none-Q n r =
     ap orQuestion
-    (passed n (shapeZ ∷ shapeA ∷ shapeN ∷ shapeM ∷ shapeD ∷ shapeO ∷ shapeR ∷ shapeE ∷ shapeT ∷ []) (shapeQ ∷ []) r)
+    (passed n (shapeZ ∷ shapeA ∷ shapeN ∷ shapeM ∷ shapeD ∷ shapeO ∷ shapeR ∷ shapeE ∷ shapeT ∷ []) (shapeQWishes ∷ shapeQ ∷ []) r)
     ∙ cases (hasLetter (n ∷ []) shapeQ) (λ e. rw e) (λ e. rw e)
 
 -- the command has what its letter asks, and the row beside
@@ -150,8 +152,8 @@ module _ (c : Command) where
   unfolding wrong askedBy periodOf
   wrong-A p e = rw e
 
-  pub wrong-Q : (r : Bool) (q : Question) (x y z : Bool) → c .what ≡ What.Ask q → r ≡ cond (eqb (q .object) 1) x y
+  pub wrong-Q : (r : Bool) (q : Question) (w : Wishes) (x y z : Bool) → c .what ≡ What.Ask q w → r ≡ cond (eqb (q .object) 1) x y
       → y ≡ not z
       → z ≡ (eqb (q .movement) 0 && eqb (q .payment) 0) → x ≡ (eqb (q .movement) 0 || eqb (q .payment) 0) → r ≡ wrong (asked c)
   unfolding wrong askedBy
-  wrong-Q r q x y z e f g h i = rw (e, f, g, h, i)
+  wrong-Q r q w x y z e f g h i = rw (e, f, g, h, i)

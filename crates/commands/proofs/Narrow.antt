@@ -11,9 +11,10 @@ use denote.Enum.Declared.{tagOf}
 use types.Run.{OneOf, miss}
 use Rattle.tables.proofs.Counts.{ands}
 use Rattle.meaning.specs.Fields.{within}
-use Rattle.meaning.specs.Forms.{Form, holds, holdsAll, day, csdForm, typeForm, objectForm, sequenceForm, Letter, Shape, shapes, shapeT, shapeE, shapeR, shapeO, shapeD, shapeM, shapeN, shapeA, shapeZ, shapeQ}
+use Rattle.meaning.specs.Forms.{Form, holds, holdsAll, day, csdForm, typeForm, objectForm, sequenceForm, Letter, Shape, shapes, shapeT, shapeE, shapeR, shapeO, shapeD, shapeM, shapeN, shapeA, shapeZ, shapeQWishes, shapeQ}
 use Rattle.meaning.specs.Records as M
 use Rattle.meaning.specs.Records.{_!_, commandOf, questionIn}
+use Rattle.meaning.specs.declared.Wishes.{Wishes}
 use Rattle.meaning.proofs.Shapes.{Ranged, by-rows}
 use Rattle.meaning.proofs.Ranges.{holds-at}
 use Rattle.records.specs.Said.{typeOf, ruleOf, rowOf, periodOf}
@@ -39,7 +40,7 @@ Narrow d (M.addRow w) = Key (w .type) (w .object) (w .sequence)
 Narrow d (M.deleteRow w) = Key (w .type) (w .object) (w .sequence)
 Narrow d (M.addPeriod e p) = (e ≡ d) × (p .kind < 256)
 Narrow d (M.endPeriod e kind number code first last) = (e ≡ d) × (kind < 256)
-Narrow d (M.ask q) = (q .object < 256)
+Narrow d (M.ask q x) = (q .object < 256)
 
 pub low-same : (n : ℕ) → n < 256 → n % 256 ≡ n
 low-same n l = omega arith
@@ -59,12 +60,12 @@ asked-coded c d (M.addRow w) (n, o, s) = rw (low-same (w .type) n, low-same (w .
 asked-coded c d (M.deleteRow w) (n, o, s) = rw (low-same (w .type) n, low-same (w .object) o, low-same (w .sequence) s)
 asked-coded c d (M.addPeriod e p) (f, k) = rw (f, low-same (p .kind) k)
 asked-coded c d (M.endPeriod e kind number code first last) (f, k) = rw (f, low-same kind k)
-asked-coded c d (M.ask q) o = rw (low-same (q .object) o)
+asked-coded c d (M.ask q x) o = rw (low-same (q .object) o)
 
 -- a question of the meaning's as depository c's
-abbrev pub asOn : ℕ → Option M.Question → Option Question
+abbrev pub asOn : ℕ → Option (M.Question × Wishes) → Option (Question × Wishes)
 asOn c none = none
-asOn c (some q) = some (questionOn c q)
+asOn c (some (q, x)) = some (questionOn c q, x)
 
 pub question-coded : (c : ℕ) (k : M.Command) → questionAsked (whatOf c k) ≡ asOn c (questionIn k)
 unfolding whatOf
@@ -77,12 +78,12 @@ question-coded c (M.addRow w) = refl
 question-coded c (M.deleteRow w) = refl
 question-coded c (M.addPeriod e p) = refl
 question-coded c (M.endPeriod e kind number code first last) = refl
-question-coded c (M.ask q) = refl
+question-coded c (M.ask q x) = refl
 
 -- a question as the meaning's
-abbrev pub asMeant : Option Question → Option M.Question
+abbrev pub asMeant : Option (Question × Wishes) → Option (M.Question × Wishes)
 asMeant none = none
-asMeant (some q) = some (questionOf q)
+asMeant (some (q, x)) = some (questionOf q, x)
 
 pub asked-question : (d : ℕ) (w : Row) (x : What) → questionIn (askedBy d w x) ≡ asMeant (questionAsked x)
 unfolding askedBy
@@ -95,7 +96,7 @@ asked-question d w What.AddRow = refl
 asked-question d w What.DeleteRow = refl
 asked-question d w (What.AddPeriod p) = refl
 asked-question d w (What.EndPeriod p) = refl
-asked-question d w (What.Ask q) = refl
+asked-question d w (What.Ask q x) = refl
 
 -- What the code's test for a question leaves, by the places of the others in the enum, asks no question.
 pub not-asked : (x : What) → OneOf (0 ∷ 1 ∷ 2 ∷ 3 ∷ 4 ∷ 5 ∷ 6 ∷ 7 ∷ 8 ∷ []) (tagOf the-type x) → questionAsked x ≡ none
@@ -108,7 +109,7 @@ not-asked What.AddRow k = refl
 not-asked What.DeleteRow k = refl
 not-asked (What.AddPeriod p) k = refl
 not-asked (What.EndPeriod p) k = refl
-not-asked (What.Ask q) k = absurd (miss (0 ∷ 1 ∷ 2 ∷ 3 ∷ 4 ∷ 5 ∷ 6 ∷ 7 ∷ 8 ∷ []) 9 tt k)
+not-asked (What.Ask q x) k = absurd (miss (0 ∷ 1 ∷ 2 ∷ 3 ∷ 4 ∷ 5 ∷ 6 ∷ 7 ∷ 8 ∷ []) 9 tt k)
 
 -- The question of a command whose one-byte fields are below 256 is coded as itself.
 pub question-same : (c d : ℕ) (k : M.Command) → Narrow d k → asMeant (asOn c (questionIn k)) ≡ questionIn k
@@ -130,7 +131,7 @@ pub narrow-read : (l : Letter) (v : List ℕ) → Ranged l v → Narrow (v ! 1) 
 unfolding shapes commandOf holds
 narrow-read l v r =
     by-rows (λ l v. Narrow (v ! 1) (commandOf l v))
-    (read-T, (read-E, (read-R, (read-O, (read-D, (read-M, (read-N, (read-A, (read-Z, (read-Q, tt))))))))))
+    (read-T, (read-E, (read-R, (read-O, (read-D, (read-M, (read-N, (read-A, (read-Z, (read-QW, (read-Q, tt)))))))))))
     r
   where
     -- the number at a place, whose form is from 1 to m
@@ -183,6 +184,9 @@ narrow-read l v r =
 
     read-Z : Read v shapeZ
     read-Z e = (refl, byte (shapeZ .forms) 2 3 e (omega arith) refl (omega arith))
+
+    read-QW : Read v shapeQWishes
+    read-QW e = byte (shapeQWishes .forms) 2 2 e (omega arith) refl (omega arith)
 
     read-Q : Read v shapeQ
     read-Q e = byte (shapeQ .forms) 2 2 e (omega arith) refl (omega arith)

@@ -8,6 +8,7 @@ use lib.ListN.{replicate}
 use Rattle.meaning.specs.Forms.{Letter, letterQ, Shape, shapes, hasLetter, firstShape}
 use Rattle.meaning.specs.Records as M
 use Rattle.meaning.specs.Records.{_!_, commandOf}
+use Rattle.meaning.specs.declared.Wishes.{Wishes}
 use Rattle.places.specs.Layout.{zeroRow}
 use Rattle.places.specs.declared.Row.{Row}
 use Rattle.places.specs.declared.Period.{Period}
@@ -44,13 +45,13 @@ askedBy day w What.AddRow = M.addRow (rowOf w)
 askedBy day w What.DeleteRow = M.deleteRow (rowOf w)
 askedBy day w (What.AddPeriod p) = M.addPeriod day (periodOf p)
 askedBy day w (What.EndPeriod p) = M.endPeriod day (p .kind) (p .number) (p .code) (p .first) (p .last)
-askedBy day w (What.Ask q) = M.ask (questionOf q)
+askedBy day w (What.Ask q x) = M.ask (questionOf q) x
 
 abbrev pub asked : Command → M.Command
 asked c = askedBy (c .day) (c .row) (c .what)
 
--- the question that is asked, if it is one
-abbrev pub questionAsked : What → Option Question
+-- the question that is asked, if it is one, with the wishes that it carries
+abbrev pub questionAsked : What → Option (Question × Wishes)
 questionAsked (What.AddType t) = none
 questionAsked (What.EndType number object last) = none
 questionAsked (What.AddRule r) = none
@@ -60,7 +61,7 @@ questionAsked What.AddRow = none
 questionAsked What.DeleteRow = none
 questionAsked (What.AddPeriod p) = none
 questionAsked (What.EndPeriod p) = none
-questionAsked (What.Ask q) = some q
+questionAsked (What.Ask q x) = some (q, x)
 
 -- ---- the command of depository c for what is asked; what stands in one byte is the number's lowest byte
 
@@ -115,7 +116,7 @@ whatOf c (M.addRow w) = What.AddRow
 whatOf c (M.deleteRow w) = What.DeleteRow
 whatOf c (M.addPeriod day p) = What.AddPeriod (periodOn c (p .kind) (p .number) (p .code) (p .first) (p .last))
 whatOf c (M.endPeriod day kind number code first last) = What.EndPeriod (periodOn c kind number code first last)
-whatOf c (M.ask q) = What.Ask (questionOn c q)
+whatOf c (M.ask q x) = What.Ask (questionOn c q) x
 
 -- for M and N the row, for O and D a row without values, whose key names the rule
 unfoldable pub rowBeside : ℕ → M.Command → Row
@@ -128,7 +129,7 @@ rowBeside c (M.addRow w) = rowOn c (w .type) (w .object) (w .sequence) (w .value
 rowBeside c (M.deleteRow w) = rowOn c (w .type) (w .object) (w .sequence) (w .values)
 rowBeside c (M.addPeriod day p) = zeroRow
 rowBeside c (M.endPeriod day kind number code first last) = zeroRow
-rowBeside c (M.ask q) = zeroRow
+rowBeside c (M.ask q x) = zeroRow
 
 -- the command of depository c on a day
 unfoldable pub coded : ℕ → ℕ → M.Command → Command

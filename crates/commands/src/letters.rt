@@ -3,6 +3,7 @@ use crate::Command;
 use crate::Question;
 use crate::What;
 use basics::low;
+use meaning::Wishes;
 use places::Period;
 use places::RestrictionType;
 use places::Row;
@@ -13,7 +14,7 @@ ghost use Rattle.meaning.specs.Forms.{letterT, letterR, letterD, letterM, lette
 ghost use Rattle.meaning.specs.Records.{_!_, commandOf};
 ghost use Rattle.places.specs.Layout.{zeroRow};
 ghost use Rattle.commands.specs.Asked.{periodOn, whatOf, coded, rowBeside, commandOn, letterFor};
-ghost use Rattle.commands.specs.declared.What.the-variants.{AddType, AddRule, Ask};
+ghost use Rattle.commands.specs.declared.What.the-variants.{AddType, AddRule};
 
 const T: u8 = b'T';
 
@@ -63,11 +64,11 @@ fn period_of(v: [u32; 16]) -> Period
     Period::new(low(v[0]), low(v[2]), v[3], v[4], v[5], v[6])
 }
 
-// What Q asks.
-fn question_of(v: [u32; 16]) -> Question
-    ensures { λ r. ⌜ Ask r ≡ whatOf (v ! 0 % 256) (commandOf letterQ v) ⌝ }
+// What Q asks, and the wishes that it carries.
+fn ask_of(v: [u32; 16]) -> What
+    ensures { λ r. ⌜ r ≡ whatOf (v ! 0 % 256) (commandOf letterQ v) ⌝ }
 {
-    Question {
+    let question = Question {
         csd: low(v[0]),
         day: v[1],
         object: low(v[2]),
@@ -79,7 +80,12 @@ fn question_of(v: [u32; 16]) -> Question
         party: v[8],
         account: v[9],
         security: v[10],
-    }
+    };
+    let wishes = Wishes {
+        indicator: v[11],
+        default: v[12],
+    };
+    What::Ask(question, wishes)
 }
 
 // The command of a line without a row.
@@ -146,6 +152,6 @@ pub fn command_of(letter: u8, v: [u32; 16]) -> Command
         N => with_row(v, What::DeleteRow),
         A => plain(v, What::AddPeriod(period_of(v))),
         Z => plain(v, What::EndPeriod(period_of(v))),
-        _ => plain(v, What::Ask(question_of(v))),
+        _ => plain(v, ask_of(v)),
     }
 }

@@ -1,5 +1,5 @@
-// What a line asks, by name (document 01, the table of letters). The letters' module makes it of a line's letter and
-// numbers.
+// What a line asks, by name (document 01, the table of letters; document 02, request b). The letters' module makes it
+// of a line's letter and numbers.
 mod letters;
 
 use basics::and;
@@ -7,6 +7,7 @@ use basics::choose;
 use basics::no;
 use basics::or;
 pub use letters::command_of;
+use meaning::Wishes;
 use places::Period;
 use places::RestrictionType;
 use places::Row;
@@ -45,7 +46,7 @@ pub enum What {
     AddPeriod(Period),
     // The period whose last day is the new one.
     EndPeriod(Period),
-    Ask(Question),
+    Ask(Question, Wishes),
 }
 
 // A command of a depository. The row is all 0 where none is meant.
@@ -79,7 +80,7 @@ pub fn is_wrong(c: Command) -> bool
         What::AddPeriod(p) => p.last < p.first,
         What::EndPeriod(_) => false,
         // Movement and payment are filled for instructions and empty for restrictions.
-        What::Ask(q) => {
+        What::Ask(q, _) => {
             let movement = q.movement == 0;
             let payment = q.payment == 0;
             choose(

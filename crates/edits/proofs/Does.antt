@@ -19,6 +19,7 @@ use Rattle.records.specs.declared.RowAsk.the-variants as Rows
 use Rattle.records.specs.declared.PeriodAsk.the-variants as Periods
 use Rattle.commands.specs.Asked.{askedBy, asked}
 use Rattle.commands.specs.declared.Question.{Question}
+use Rattle.meaning.specs.declared.Wishes.{Wishes}
 use Rattle.commands.specs.declared.What.the-variants as What
 use Rattle.commands.specs.declared.Command.{Command}
 use Rattle.book.specs.Places.{typePlace, rulePlace, rowPlace, periodPlace}
@@ -172,9 +173,9 @@ module _ (b b′ : List ℕ) (c : Command) where
     unfolding editIn askedBy rowOf
     edit-N e f g = rw e (f ∙ ap (λ z. deletedRow b (z .csd) (rowOf z)) g)
 
-pub edit-Q : (b : List ℕ) (c : Command) (q : Question) → c .what ≡ What.Ask q → b ≡ editIn b (c .csd) (asked c)
+pub edit-Q : (b : List ℕ) (c : Command) (q : Question) (x : Wishes) → c .what ≡ What.Ask q x → b ≡ editIn b (c .csd) (asked c)
 unfolding editIn askedBy
-edit-Q b c q e = rw e
+edit-Q b c q x e = rw e
 
 -- so that it leaves what the meaning says
 pub edit-meant : (b b′ : List ℕ) (c : Command) → b′ ≡ editIn b (c .csd) (asked c) → Accepted b (c .csd) (asked c)

@@ -16,6 +16,7 @@ use Rattle.meaning.specs.Keys.{isType, isRule, isRow, isPeriod}
 use Rattle.meaning.specs.Refusals.{conditions, refusal}
 use Rattle.meaning.specs.Edits.{edited, fits, typeUntil, periodUntil}
 use Rattle.meaning.specs.Lone.{isQuestion}
+use Rattle.meaning.specs.declared.Wishes.{Wishes}
 use Rattle.meaning.specs.Forms.{holds, day, sequenceForm}
 use Rattle.meaning.specs.Sound.{typeFits, ruleFits, rowFits, periodFits}
 use Rattle.meaning.proofs.First.{command-not-refused}
@@ -165,9 +166,9 @@ module _ (b : List ℕ) (c : ℕ) (g : GoodBook b) (low : 1 ≤ c) (high : c ≤
       (rule-with-fits new (ruleAt b i) (omega (arith, f .1)) (rule-fits i (f .0) (f .1)) e)
       (λ k l z. row-with-fits new (rowAt b k) (omega (arith, z)) (ten-values c n o s new b k) (row-fits k l z) e))
 
-  leaves-nothing : (q : M.Question) → Leaves b (editIn b c (M.ask q)) c (edited (loneBook c b) (M.ask q))
+  leaves-nothing : (q : M.Question) (x : Wishes) → Leaves b (editIn b c (M.ask q x)) c (edited (loneBook c b) (M.ask q x))
   unfolding editIn edited
-  leaves-nothing q =
+  leaves-nothing q x =
       record {
         size = refl;
         places = λ e. e;
@@ -201,7 +202,7 @@ module _ (b : List ℕ) (c : ℕ) (g : GoodBook b) (low : 1 ≤ c) (high : c ≤
   edit-leaves (M.endPeriod d κ n o first last) f e =
       leaves-period-end d κ n o first last f
       (not-false (has (isPeriod κ n o first) (periodsOf c b)) (command-not-refused (loneBook c b) (M.endPeriod d κ n o first last) refl e 7))
-  edit-leaves (M.ask q) f e = leaves-nothing q
+  edit-leaves (M.ask q x) f e = leaves-nothing q x
 
 -- A question's edit leaves every byte.
 pub question-left : (b : List ℕ) (c : ℕ) (k : M.Command) → isQuestion k ≡ true → editIn b c k ≡ b
@@ -215,4 +216,4 @@ question-left b c (M.addRow w) q = absurd (false≢true q)
 question-left b c (M.deleteRow w) q = absurd (false≢true q)
 question-left b c (M.addPeriod e p) q = absurd (false≢true q)
 question-left b c (M.endPeriod e kind number code first last) q = absurd (false≢true q)
-question-left b c (M.ask r) q = refl
+question-left b c (M.ask r x) q = refl

@@ -117,4 +117,4 @@ editIn b c (M.deleteRow w) = deletedRow b c w
 editIn b c (M.addPeriod day p) = storePeriod b (freePeriod b) (periodIn c p)
 editIn b c (M.endPeriod day κ n o first last) =
     endedPeriod b (record { csd = c; kind = κ; number = n; code = o; first = first; last = last })
-editIn b c (M.ask q) = b
+editIn b c (M.ask q x) = b

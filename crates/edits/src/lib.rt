@@ -236,6 +236,6 @@ pub fn edit(b: &mut [u8], c: Command)
         What::DeleteRow => delete_row(b, w),
         What::AddPeriod(p) => add_period(b, own_period(csd, p)),
         What::EndPeriod(p) => end_period(b, own_period(csd, p)),
-        What::Ask(_) => {}
+        What::Ask(_, _) => {}
     }
 }

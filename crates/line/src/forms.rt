@@ -1,4 +1,4 @@
-// The number that a field gives, by its form (document 01, 'Lines').
+// The number that a field gives, by its form (document 01, 'Lines'; document 02, request b).
 use crate::CAPITALS;
 use crate::DIGITS;
 use crate::every;
@@ -17,6 +17,7 @@ use shapes::OPTIONAL;
 use shapes::PA;
 use shapes::SG;
 use shapes::TR;
+use shapes::WI;
 ghost use Prim.Native.Nat.{_-_, _<_, _≤_, min};
 ghost use mathlib.Core.Path.{_≡_};
 ghost use mathlib.Core.List.{[], _∷_};
@@ -188,6 +189,7 @@ fn plain_value(f: &[u8], form: u8) -> Value
         MO => either(f, b"DELI", b"RECE"),
         PA => either(f, b"APMT", b"FREE"),
         TR => letters(f, 4),
+        WI => either(f, b"Y", b"N"),
         _ => letters(f, 3),
     }
 }

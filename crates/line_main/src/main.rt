@@ -33,13 +33,13 @@ fn show_answer(answer: Answer) {
     io::write_all(STDOUT_FILENO, b"\n");
 }
 
-fn verdict(rejected: bool, a: Deciding, b: Deciding, c: Deciding) -> Answer {
-    Answer::Judged(Verdict {
+fn verdict(rejected: bool, a: Deciding, b: Deciding, c: Deciding) -> Verdict {
+    Verdict {
         rejected,
         rejection: a,
         validation: b,
         party: c,
-    })
+    }
 }
 
 fn main() {
@@ -53,29 +53,28 @@ fn main() {
     show_answer(Answer::Taken);
     show_answer(Answer::Refused(8));
     show_answer(Answer::Refused(10));
-    show_answer(verdict(
-        false,
-        none,
-        none,
-        Deciding {
-            number: 9,
-            sequence: 5,
-        },
-    ));
-    show_answer(verdict(false, none, none, none));
-    show_answer(verdict(
+    let held = Deciding {
+        number: 9,
+        sequence: 5,
+    };
+    let accepted = verdict(false, none, none, none);
+    show_answer(Answer::Judged(verdict(false, none, none, held)));
+    show_answer(Answer::Judged(accepted));
+    show_answer(Answer::WithStatus(accepted, false));
+    let longest = verdict(
         true,
         Deciding {
             number: 255,
-            sequence: 99,
+            sequence: 199,
         },
         Deciding {
-            number: 100,
-            sequence: 10,
+            number: 200,
+            sequence: 210,
         },
         Deciding {
-            number: 9,
-            sequence: 1,
+            number: 220,
+            sequence: 230,
         },
-    ));
+    );
+    show_answer(Answer::WithStatus(longest, true));
 }

@@ -11,8 +11,10 @@ use Rattle.meaning.specs.Reading.{Reading, refused, asks, reading}
 use Rattle.meaning.specs.Refusals.{conditions, refusal}
 use Rattle.meaning.specs.Edits.{edited, fits}
 use Rattle.meaning.specs.Judging.{judged}
+use Rattle.meaning.specs.Status.{answerTo}
+use Rattle.meaning.specs.declared.Wishes.{Wishes}
 use Rattle.meaning.specs.Lone.{Step, elsewhere, reply, replied, unless, takenSent, taken, afterReading, stepSent, step, afterSent}
-use Rattle.meaning.specs.declared.Answer.the-variants.{Taken, Judged}
+use Rattle.meaning.specs.declared.Answer.the-variants.{Taken}
 use Rattle.meaning.specs.declared.Sent.{Sent}
 use Rattle.meaning.specs.declared.Sent.the-variants.{Alone}
 use Rattle.meaning.specs.Exercise.{commandRead, Entered, done, taking, passing, QuestionAnswered}
@@ -68,13 +70,13 @@ accepted (passing {b = b} {how = how} {line = line} {lines = lines} {ks = ks} e 
 
 -- ---- questions
 
-read-answered : (b : Book) (r : Reading) (q : Question) → commandRead r ≡ some (ask q)
-    → afterReading Alone b r .answer ≡ Judged (judged b q)
+read-answered : (b : Book) (r : Reading) (q : Question) (w : Wishes) → commandRead r ≡ some (ask q w)
+    → afterReading Alone b r .answer ≡ answerTo (judged b q) w
 unfolding afterReading commandRead taken refusal conditions unless reply replied
-read-answered b (refused n) q e = absurd (let z : _≡_ {A = ℕ} 0 1 = cc in omega arith)
-read-answered b (asks l v) q e = let i : commandOf l v ≡ ask q = cc in ap (λ k. taken b k .answer) i
+read-answered b (refused n) q w e = absurd (let z : _≡_ {A = ℕ} 0 1 = cc in omega arith)
+read-answered b (asks l v) q w e = let i : commandOf l v ≡ ask q w = cc in ap (λ k. taken b k .answer) i
 
 pub question-answered : QuestionAnswered
 unfolding step stepSent
-question-answered how b line q here e =
-    ap (λ s. s .answer) (sent-here how b line here) ∙ read-answered b (reading line) q e
+question-answered how b line q w here e =
+    ap (λ s. s .answer) (sent-here how b line here) ∙ read-answered b (reading line) q w e

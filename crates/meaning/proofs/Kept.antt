@@ -49,7 +49,7 @@ lists-edited b g (addPeriod d p) f e =
     period-added b g p f (no 8) (leb-false periodQuota (length (b .periods)) (no 10))
 lists-edited b g (endPeriod d κ n o first last) f e =
     period-ended b g κ n o first last f (command-not-refused b (endPeriod d κ n o first last) refl e 9)
-lists-edited b g (ask q) f e = g
+lists-edited b g (ask q w) f e = g
 
 pub good-edited : (b : Book) → Good b → (k : Command) → fits k ≡ true → refusal b k ≡ 0 → Good (edited b k)
 good-edited b g k f e = good-lists (edited b k) (lists-edited b (g .lists) k f e)

@@ -30,3 +30,5 @@ pub mod ExerciseVerdict
 pub mod ExerciseMoved
 pub mod ExerciseWithoutRows
 pub mod ExerciseDesks
+pub mod Holding
+pub mod HoldExamples

@@ -16,7 +16,8 @@ use Rattle.meaning.specs.Edits.{typeUntil, ruleMoved, rowMoved, periodUn
 use Rattle.meaning.specs.Judging.{covers, meetsAll, hasCode, tests, matches, ruleApplies, applies, named, deciding, decided, verdict, judged}
 use Rattle.meaning.specs.Lone.{Step, elsewhere, replied, reply, unless, takenSent, afterReading, stepSent, step, answersSent, told, answersFrom}
 use Rattle.meaning.specs.SameBook.{SameBook}
-use Rattle.meaning.specs.declared.Answer.the-variants.{Judged}
+use Rattle.meaning.specs.declared.Wishes.{Wishes}
+use Rattle.meaning.specs.Status.{answerTo}
 use Rattle.meaning.specs.declared.Sent.{Sent}
 use Rattle.meaning.specs.declared.Sent.the-variants.{Alone}
 
@@ -58,7 +59,7 @@ module _ (b c : Book) (s : SameBook b c) where
   conditions-same (addPeriod day p) = rw (periods-has (clash p), same-length (b .periods) (c .periods) (s .periods))
   conditions-same (endPeriod day kind number code first last) =
       rw (periods-has (isPeriod kind number code first), periods-has (periodOutside kind number code first last))
-  conditions-same (ask q) = refl
+  conditions-same (ask q w) = refl
 
   pub refusal-same : (k : Command) → refusal b k ≡ refusal c k
   unfolding refusal
@@ -83,7 +84,7 @@ module _ (b c : Book) (s : SameBook b c) where
   edited-same (addPeriod day p) = search (same-cons p (b .periods) (c .periods) (s .periods))
   edited-same (endPeriod day kind number code first last) =
       search (same-change (isPeriod kind number code first) (periodUntil last) (b .periods) (c .periods) (s .periods))
-  edited-same (ask q) = s
+  edited-same (ask q w) = s
 
   -- ---- judging
 
@@ -150,10 +151,10 @@ module _ (b c : Book) (s : SameBook b c) where
         verdict-same (named b q rejection) (named b q validationHold) (named b q partyHold)
         ∙ rw (named-same rejection, named-same validationHold, named-same partyHold)
 
-  replied-same : (q : Option Question) → replied b q ≡ replied c q
+  replied-same : (q : Option (Question × Wishes)) → replied b q ≡ replied c q
   unfolding replied
   replied-same none = refl
-  replied-same (some q) = ap Judged (judged-same q)
+  replied-same (some (q, w)) = ap (λ v. answerTo v w) (judged-same q)
 
   reply-same : (k : Command) → reply b k ≡ reply c k
   unfolding reply

@@ -113,7 +113,7 @@ pub command-fits : (l : Letter) (v : List ℕ) → Ranged l v → wrong (command
 unfolding shapes commandOf wrong fits typeFits ruleFits rowFits periodFits keyFits daysFit
 command-fits l v r =
     by-rows (λ l v. wrong (commandOf l v) ≡ false → fits (commandOf l v) ≡ true)
-    (fits-T, (fits-E, (fits-R, (fits-O, ((λ e w. refl), (fits-M, ((λ e w. refl), (fits-A, (fits-Z, ((λ e w. refl), tt))))))))))
+    (fits-T, (fits-E, (fits-R, (fits-O, ((λ e w. refl), (fits-M, ((λ e w. refl), (fits-A, (fits-Z, ((λ e w. refl), ((λ e w. refl), tt)))))))))))
     r
   where
     fits-T : Fits v shapeT

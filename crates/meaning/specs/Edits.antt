@@ -78,7 +78,7 @@ edited b (deleteRow w) = withRows (without (isRow w) (b .rows)) b
 edited b (addPeriod day p) = withPeriods (p ∷ b .periods) b
 edited b (endPeriod day kind number code first last) =
     withPeriods (change (isPeriod kind number code first) (periodUntil last) (b .periods)) b
-edited b (ask q) = b
+edited b (ask q w) = b
 
 -- what a command would put into a book is in its range
 unfoldable pub fits : Command → Bool
@@ -92,4 +92,4 @@ fits (addRow w) = rowFits w
 fits (deleteRow w) = true
 fits (addPeriod day p) = periodFits p
 fits (endPeriod day kind number code first last) = holds dayForm last
-fits (ask q) = true
+fits (ask q w) = true

@@ -27,12 +27,14 @@ use Rattle.meaning.specs.Reading.{Reading, refused, asks, reading}
 use Rattle.meaning.specs.Keys.{isRule, ofRule}
 use Rattle.meaning.specs.Edits.{ruleMoved, rowMoved}
 use Rattle.meaning.specs.Judging.{by, nobody, ruleApplies, judged}
+use Rattle.meaning.specs.Status.{answerTo}
+use Rattle.meaning.specs.declared.Wishes.{Wishes}
 use Rattle.meaning.specs.Lone.{elsewhere, stepSent, depository, answersSent, afterSent}
 use Rattle.meaning.specs.Sound.{soundLone}
 use Rattle.meaning.specs.SameBook.{SameBook}
 use Rattle.meaning.specs.declared.Deciding.{Deciding}
 use Rattle.meaning.specs.declared.Verdict.{Verdict}
-use Rattle.meaning.specs.declared.Answer.the-variants.{Taken, Judged}
+use Rattle.meaning.specs.declared.Answer.the-variants.{Taken}
 use Rattle.meaning.specs.declared.Sent.{Sent}
 
 -- ---- lines that are taken
@@ -54,11 +56,11 @@ pub data Entered : Book → List (Sent × List ℕ) → List Command → Type 0 
       → stepSent how b line .book ≡ b → Entered b lines ks → Entered b ((how, line) ∷ lines) ks
 
 -- A line that asks a question, and names the depository of its batch where it comes in one, is answered with its
--- verdict: what is said below of `judged` is said of the answers.
+-- verdict, and the status where it carries the wishes: what is said below of `judged` is said of the answers.
 abbrev pub QuestionAnswered : Type 0
 QuestionAnswered =
-    (how : Sent) (b : Book) (line : List ℕ) (q : Question) → elsewhere how (depository line) ≡ false
-    → commandRead (reading line) ≡ some (ask q) → stepSent how b line .answer ≡ Judged (judged b q)
+    (how : Sent) (b : Book) (line : List ℕ) (q : Question) (w : Wishes) → elsewhere how (depository line) ≡ false
+    → commandRead (reading line) ≡ some (ask q w) → stepSent how b line .answer ≡ answerTo (judged b q) w
 
 -- the book holds exactly that rule: sequence, sign, criteria and days too
 unfoldable pub sameRule : Rule → Rule → Bool

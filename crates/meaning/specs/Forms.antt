@@ -1,7 +1,7 @@
--- The forms of a field, and the table of letters (document 01, 'Lines'). Assumes nothing.
+-- The forms of a field, and the table of letters (document 01, 'Lines'; document 02, request b). Assumes nothing.
 use Prim.Native.Nat.{ℕ, zero, suc, _/_, _%_}
 use mathlib.Core.Bool.{Bool, true, false, cond, _&&_, _||_}
-use mathlib.Core.List.{List, [], _∷_}
+use mathlib.Core.List.{List, [], _∷_, _++_}
 use mathlib.Core.Option.{Option, some, none}
 use lib.Dec.{leb, ltb, eqb}
 use lib.ListN.{length, getD}
@@ -141,6 +141,10 @@ transactionForm = letters 4
 abbrev pub currencyForm : Form
 currencyForm = letters 3
 
+-- hold indicator and account default (document 02, request b): yes, no
+abbrev pub wishForm : Form
+wishForm = oneOf (bytes "Y" ∷ bytes "N" ∷ [])
+
 -- the ten values of a row: criteria 0 to 9
 abbrev pub tenValues : List Form
 tenValues =
@@ -219,29 +223,46 @@ shapeA = record { letter = letterA; forms = csdForm ∷ day ∷ kindForm ∷ num
 unfoldable pub shapeZ : Shape
 shapeZ = record { letter = letterZ; forms = csdForm ∷ day ∷ kindForm ∷ numberForm ∷ code ∷ day ∷ day ∷ [] }
 
-unfoldable pub shapeQ : Shape
-shapeQ = record {
-  letter = letterQ;
-  forms =
-      csdForm
-      ∷ day
-      ∷ objectForm
-      ∷ partyTypeForm
-      ∷ optional movementForm
-      ∷ optional paymentForm
-      ∷ optional transactionForm
-      ∷ optional currencyForm
-      ∷ numberForm
-      ∷ numberForm
-      ∷ numberForm
-      ∷ [];
-}
+-- what every question carries
+abbrev pub questionForms : List Form
+questionForms =
+    csdForm
+    ∷ day
+    ∷ objectForm
+    ∷ partyTypeForm
+    ∷ optional movementForm
+    ∷ optional paymentForm
+    ∷ optional transactionForm
+    ∷ optional currencyForm
+    ∷ numberForm
+    ∷ numberForm
+    ∷ numberForm
+    ∷ []
 
--- the table's rows, in its order; a letter may have several rows, of different lengths
+unfoldable pub shapeQ : Shape
+shapeQ = record { letter = letterQ; forms = questionForms }
+
+-- Q with hold indicator and account default, which is always filled (document 02, request b)
+unfoldable pub shapeQWishes : Shape
+shapeQWishes = record { letter = letterQ; forms = questionForms ++ (optional wishForm ∷ wishForm ∷ []) }
+
+-- the table's rows; a letter may have several rows, of different lengths. The shorter Q is last: it is the row of every
+-- number past the table (crate `shapes`).
 unfoldable pub shapes : List Shape
-unfolding shapeT shapeE shapeR shapeO shapeD shapeM shapeN shapeA shapeZ shapeQ
+unfolding shapeT shapeE shapeR shapeO shapeD shapeM shapeN shapeA shapeZ shapeQWishes shapeQ
 shapes =
-    shapeT ∷ shapeE ∷ shapeR ∷ shapeO ∷ shapeD ∷ shapeM ∷ shapeN ∷ shapeA ∷ shapeZ ∷ shapeQ ∷ []
+    shapeT
+    ∷ shapeE
+    ∷ shapeR
+    ∷ shapeO
+    ∷ shapeD
+    ∷ shapeM
+    ∷ shapeN
+    ∷ shapeA
+    ∷ shapeZ
+    ∷ shapeQWishes
+    ∷ shapeQ
+    ∷ []
 
 -- whether a field is the row's letter
 abbrev pub hasLetter : List ℕ → Shape → Bool

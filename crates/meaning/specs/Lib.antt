@@ -8,6 +8,7 @@ pub mod Reading
 pub mod Sound
 pub mod Edits
 pub mod Judging
+pub mod Status
 pub mod Lone
 pub mod Printing
 pub mod Desk
@@ -18,3 +19,4 @@ pub mod SameBook
 pub mod Nobody
 pub mod Exactly
 pub mod Exercise
+pub mod Holding

@@ -14,8 +14,10 @@ use Rattle.meaning.specs.Reading.{Reading, refused, asks, reading}
 use Rattle.meaning.specs.Refusals.{refusalSent}
 use Rattle.meaning.specs.Edits.{edited}
 use Rattle.meaning.specs.Judging.{judged}
+use Rattle.meaning.specs.Status.{answerTo}
+use Rattle.meaning.specs.declared.Wishes.{Wishes}
 use Rattle.meaning.specs.declared.Answer.{Answer}
-use Rattle.meaning.specs.declared.Answer.the-variants.{Taken, Refused, Judged}
+use Rattle.meaning.specs.declared.Answer.the-variants.{Taken, Refused}
 use Rattle.meaning.specs.declared.Sent.{Sent}
 use Rattle.meaning.specs.declared.Sent.the-variants.{Alone, InBatch}
 
@@ -24,11 +26,12 @@ unfoldable pub elsewhere : Sent → ℕ → Bool
 elsewhere Alone csd = false
 elsewhere (InBatch c) csd = not (eqb csd c)
 
--- a question is answered with its verdict, any other command with K
-unfoldable pub replied : Book → Option Question → Answer
-unfolding judged
+-- a question is answered with its verdict, which its wishes do not alter, and the status where it carries them; any
+-- other command with K
+unfoldable pub replied : Book → Option (Question × Wishes) → Answer
+unfolding judged answerTo
 replied b none = Taken
-replied b (some q) = Judged (judged b q)
+replied b (some (q, w)) = answerTo (judged b q) w
 
 -- what a command that is not refused answers
 unfoldable pub reply : Book → Command → Answer
@@ -61,7 +64,7 @@ afterReading how b (refused n) = record { answer = Refused n; book = b }
 afterReading how b (asks l v) = takenSent (elsewhere how (v ! 0)) b (commandOf l v)
 
 -- whether there is a question
-abbrev pub isSome : Option Question → Bool
+abbrev pub isSome : Option (Question × Wishes) → Bool
 isSome none = false
 isSome (some q) = true
 

@@ -1,10 +1,11 @@
--- The printed form of an answer (document 01, 'The desk program'). Assumes nothing.
+-- The printed form of an answer (document 01, 'The desk program'; document 02, request b). Assumes nothing.
 use Prim.Native.Nat.{ℕ}
 use mathlib.Core.Bool.{Bool, true, false}
 use mathlib.Core.List.{List, [], _∷_, _++_}
 use Rattle.meaning.specs.Text.{bytes, numeral}
+use Rattle.meaning.specs.declared.Verdict.{Verdict}
 use Rattle.meaning.specs.declared.Answer.{Answer}
-use Rattle.meaning.specs.declared.Answer.the-variants.{Taken, Refused, Judged}
+use Rattle.meaning.specs.declared.Answer.the-variants.{Taken, Refused, Judged, WithStatus}
 
 -- A accepted, R rejected
 abbrev pub verdictText : Bool → List ℕ
@@ -16,13 +17,11 @@ unfoldable pub textOf : Answer → List ℕ
 textOf Taken = bytes "K"
 textOf (Refused n) = bytes "F"
 textOf (Judged v) = verdictText (v .rejected)
+textOf (WithStatus v s) = verdictText (v .rejected)
 
--- the paper's numbers of each case: the refusal's, or type and sequence deciding rejection, validation hold and party
--- hold, 0, 0 where none
-unfoldable pub numbersOf : Answer → List ℕ
-numbersOf Taken = []
-numbersOf (Refused n) = n ∷ []
-numbersOf (Judged v) =
+-- type and sequence deciding rejection, validation hold and party hold, 0, 0 where none
+abbrev pub verdictNumbers : Verdict → List ℕ
+verdictNumbers v =
     v .rejection .number
     ∷ v .rejection .sequence
     ∷ v .validation .number
@@ -31,6 +30,25 @@ numbersOf (Judged v) =
     ∷ v .party .sequence
     ∷ []
 
+-- the paper's numbers of each case: the refusal's, or the verdict's
+unfoldable pub numbersOf : Answer → List ℕ
+numbersOf Taken = []
+numbersOf (Refused n) = n ∷ []
+numbersOf (Judged v) = verdictNumbers v
+numbersOf (WithStatus v s) = verdictNumbers v
+
+-- Y on party hold, N not
+abbrev pub statusText : Bool → List ℕ
+statusText true = bytes ",Y"
+statusText false = bytes ",N"
+
+-- what stands behind the numbers of each case: the status, or nothing
+unfoldable pub endOf : Answer → List ℕ
+endOf Taken = []
+endOf (Refused n) = []
+endOf (Judged v) = []
+endOf (WithStatus v s) = statusText s
+
 -- each number behind a comma
 unfoldable pub listed : List ℕ → List ℕ
 unfolding numeral
@@ -38,5 +56,5 @@ listed [] = []
 listed (n ∷ ns) = 44 ∷ (numeral n ++ listed ns)
 
 unfoldable pub printed : Answer → List ℕ
-unfolding textOf numbersOf listed
-printed a = textOf a ++ listed (numbersOf a)
+unfolding textOf numbersOf listed endOf
+printed a = textOf a ++ (listed (numbersOf a) ++ endOf a)

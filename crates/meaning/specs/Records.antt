@@ -1,9 +1,10 @@
--- The records of a lone book, and what a line asks, by name (document 01, 'Records' and the table of letters). Assumes
--- nothing. A lone book is one depository's, so its records do not have the csd.
+-- The records of a lone book, and what a line asks, by name (document 01, 'Records' and the table of letters; document
+-- 02, request b). Assumes nothing. A lone book is one depository's, so its records do not have the csd.
 use Prim.Native.Nat.{ℕ}
 use mathlib.Core.List.{List, [], _∷_}
 use mathlib.Core.Option.{Option, some, none}
 use lib.ListN.{getD}
+use Rattle.meaning.specs.declared.Wishes.{Wishes}
 use Rattle.meaning.specs.Forms.{Letter, letterT, letterE, letterR, letterO, letterD, letterM, letterN, letterA, letterZ, letterQ}
 
 -- ---- words as numbers: their places in the lists of `Forms`
@@ -31,6 +32,10 @@ validationHold = 2
 
 abbrev pub partyHold : ℕ
 partyHold = 3
+
+-- of a hold indicator and an account's default
+abbrev pub yes : ℕ
+yes = 1
 
 -- ---- the records
 
@@ -88,7 +93,7 @@ periodQuota = 128
 
 -- ---- what a line asks
 
--- transaction, currency, movement and payment are 0 where empty
+-- what a question is judged by: transaction, currency, movement and payment are 0 where empty
 pub record Question : Type 0 where
   pub day : ℕ
   pub object : ℕ
@@ -111,10 +116,10 @@ pub data Command : Type 0 where
   deleteRow : Row → Command
   addPeriod : (day : ℕ) → Period → Command
   endPeriod : (day kind number code first last : ℕ) → Command
-  ask : Question → Command
+  ask : Question → Wishes → Command
 
--- the question that a command asks, if it is one
-abbrev pub questionIn : Command → Option Question
+-- the question that a command asks, if it is one, with the wishes that it carries
+abbrev pub questionIn : Command → Option (Question × Wishes)
 questionIn (addType day t) = none
 questionIn (endType day type object last) = none
 questionIn (addRule day r) = none
@@ -124,7 +129,7 @@ questionIn (addRow w) = none
 questionIn (deleteRow w) = none
 questionIn (addPeriod day p) = none
 questionIn (endPeriod day kind number code first last) = none
-questionIn (ask q) = some q
+questionIn (ask q w) = some (q, w)
 
 -- the number at a place of a list, 0 past its end
 infixl 90 _!_
@@ -156,7 +161,8 @@ commandOf letterA v =
     addPeriod (v ! 1) (record { kind = v ! 2; number = v ! 3; code = v ! 4; first = v ! 5; last = v ! 6 })
 commandOf letterZ v = endPeriod (v ! 1) (v ! 2) (v ! 3) (v ! 4) (v ! 5) (v ! 6)
 commandOf letterQ v =
-    ask (record {
+    ask
+    (record {
       day = v ! 1;
       object = v ! 2;
       partyType = v ! 3;
@@ -168,3 +174,4 @@ commandOf letterQ v =
       account = v ! 9;
       security = v ! 10;
     })
+    (record { indicator = v ! 11; default = v ! 12 })

@@ -43,7 +43,7 @@ wrong (deleteRow w) = false
 wrong (addPeriod day p) = ltb (p .last) (p .first)
 wrong (endPeriod day kind number code first last) = false
 -- movement and payment are filled for object 1 and empty for object 2
-wrong (ask q) =
+wrong (ask q w) =
     cond (eqb (q .object) 1) (eqb (q .movement) 0 || eqb (q .payment) 0) (not (eqb (q .movement) 0 && eqb (q .payment) 0))
 
 -- the number of the first condition that holds; 0 where none does
@@ -114,7 +114,7 @@ conditions b (endPeriod day kind number code first last) =
     ∷ (7, not (has (isPeriod kind number code first) (b .periods)))
     ∷ (9, has (periodOutside kind number code first last) (b .periods))
     ∷ []
-conditions b (ask q) = []
+conditions b (ask q w) = []
 
 -- the earliest refusal whose condition holds; 0 where none does. 12, where a line names another depository than its
 -- batch, stands straight after 5 and before the command's own.

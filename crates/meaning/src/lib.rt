@@ -14,11 +14,20 @@ pub struct Verdict {
     pub party: Deciding,
 }
 
-// What a line is answered: K for an accepted edit, F with the refusal's number, or V with the verdict.
+// The two more fields that a question may carry (document 02, request b), called wishes here: the sender's hold
+// indicator and the account's hold default. Y is 1, N is 2, and what is empty or not carried is 0.
+pub struct Wishes {
+    pub indicator: u32,
+    pub default: u32,
+}
+
+// What a line is answered: K for an accepted edit, F with the refusal's number, V with the verdict, or V with the
+// verdict and the status, whether the instruction is on party hold.
 pub enum Answer {
     Taken,
     Refused(u8),
     Judged(Verdict),
+    WithStatus(Verdict, bool),
 }
 
 // How a line was sent: alone, or in a batch of a depository.

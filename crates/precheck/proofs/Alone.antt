@@ -2,12 +2,13 @@
 use Prim.Native.Nat.{ℕ, _≤_}
 use mathlib.Core.Path.{_≡_, refl, ap, ap₂, sym, subst, _∙_}
 use mathlib.Core.Bool.{true, false, not, false≢true}
-use mathlib.Core.List.{List, [], _∷_, _++_}
+use mathlib.Core.List.{List, [], _∷_, _++_, map}
 use Rattle.tables.specs.Count.{keep}
 use Rattle.tables.proofs.Counts.{cases, and-r}
 use Rattle.meaning.specs.Batch.{batchLines}
 use Rattle.meaning.specs.Records as M
 use Rattle.meaning.specs.SameBook.{SameBook}
+use Rattle.meaning.specs.Status.{statusIn}
 use Rattle.meaning.specs.Lone.{elsewhere, told, stepSent, answersSent, afterSent, answersFrom, answers, names, depository, counts, loneAnswers, loneAnswersSent}
 use Rattle.meaning.specs.declared.Answer.{Answer}
 use Rattle.meaning.specs.declared.Sent.{Sent}
@@ -21,7 +22,7 @@ use Rattle.book.proofs.NoRecords.{emptied-sound, emptied-lone}
 use Rattle.book.proofs.SameBooks.{same-books, same-then}
 use Rattle.precheck.specs.Promise.{answerIn, loneAfter}
 use Rattle.precheck.specs.Batch.{Steps, stop, next}
-use Rattle.precheck.specs.Alone.{Call, stands, stood, Run, done, sent, batched, answersAt, OneAlone, TwoRuns, singles, answersTo, OneAloneLines, TwoRunsLines}
+use Rattle.precheck.specs.Alone.{Call, stands, stood, Run, done, sent, batched, answersAt, OneAlone, TwoRuns, StatusAlone, NeighbourStatus, singles, answersTo, OneAloneLines, TwoRunsLines}
 
 -- ---- a run as steps, line after line
 
@@ -128,6 +129,15 @@ two-runs lent lent′ book book′ e e′ calls calls′ as′ bs′ r r′ a lo
     one-alone lent book e calls as′ r a low high
     ∙ ap (answersSent M.empty) same
     ∙ sym (one-alone lent′ book′ e′ calls′ bs′ r′ a low high)
+
+-- ---- the status
+
+pub status-alone : StatusAlone
+status-alone lent book e calls as′ r a low high = ap (map statusIn) (one-alone lent book e calls as′ r a low high)
+
+pub neighbour-status : NeighbourStatus
+neighbour-status lent lent′ book book′ e e′ calls calls′ as′ bs′ r r′ a low high same =
+    ap (map statusIn) (two-runs lent lent′ book book′ e e′ calls calls′ as′ bs′ r r′ a low high same)
 
 -- ---- the case without batches
 

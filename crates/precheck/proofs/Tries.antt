@@ -26,7 +26,7 @@ use Rattle.book.specs.Sound.{sound}
 use Rattle.book.proofs.NoRecords.{emptied-yes, emptied-sound, emptied-lone}
 use Rattle.book.proofs.SameBooks.{same-books, same-then}
 use Rattle.precheck.specs.Promise.{Submitted}
-use Rattle.precheck.specs.Tries.{LeftBy, SomeLeft, Refuted, typeLine, neighboursLine, deskLines, ruleLine, ruleLines, Tries, kelerBook, movedLines, Slips}
+use Rattle.precheck.specs.Tries.{LeftBy, SomeLeft, Refuted, typeLine, neighboursLine, deskLines, ruleLine, ruleLines, Tries, kelerBook, movedLines, Slips, statusLines, StatusSlips}
 use Rattle.precheck.proofs.Alone.{Fed, from, keep-alone, shared-answer, named-after, other-after}
 use Rattle.precheck.proofs.Runs.{some-steps}
 
@@ -156,4 +156,15 @@ slips = record {
   neighbours-quota = refuted 2 (omega arith) (omega arith) (record { own = refl; answer = refl; other = refl });
   first-stored = refuted 2 (omega arith) (omega arith) (record { own = refl; answer = refl; other = refl });
   neighbour-changed = neighbour-changed;
+}
+
+pub status-slips : StatusSlips
+unfolding statusLines names keep after step printed
+status-slips = record {
+  undone-by-n = refuted 2 (omega arith) (omega arith) (record { own = refl; answer = refl; other = refl });
+  validation-counts = refuted 2 (omega arith) (omega arith) (record { own = refl; answer = refl; other = refl });
+  default-over-n = refuted 2 (omega arith) (omega arith) (record { own = refl; answer = refl; other = refl });
+  rejected-keeps-y = refuted 2 (omega arith) (omega arith) (record { own = refl; answer = refl; other = refl });
+  empty-default = refuted 2 (omega arith) (omega arith) (record { own = refl; answer = refl; other = refl });
+  neighbours-hold = refuted 1 (omega arith) (omega arith) (record { own = refl; answer = refl; other = refl });
 }

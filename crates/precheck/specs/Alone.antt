@@ -11,6 +11,7 @@ use Rattle.tables.specs.Count.{keep}
 use Rattle.meaning.specs.Batch.{batchLines}
 use Rattle.meaning.specs.Lone.{told, names, counts, loneAnswers, loneAnswersSent}
 use Rattle.meaning.specs.Nobody.{NamesNobody}
+use Rattle.meaning.specs.Status.{statusIn}
 use Rattle.meaning.specs.declared.Answer.{Answer}
 use Rattle.meaning.specs.declared.Answer.the-variants.{Refused}
 use Rattle.meaning.specs.declared.Batch.{Batch}
@@ -72,6 +73,29 @@ TwoRuns =
     → (a : ℕ) → 1 ≤ a → a ≤ 8
     → keep (counts a) (stood calls) ≡ keep (counts a) (stood calls′)
     → answersAt (counts a) (stood calls) answers ≡ answersAt (counts a) (stood calls′) answers′
+
+-- ---- the status (document 02, request b)
+
+-- The claim for the status, the last part of an answer: a depository's statuses, line by line, are those of its lone
+-- book,
+abbrev pub StatusAlone : Type 0
+StatusAlone =
+    (lent emptied : List ℕ) → Emptied lent emptied 0
+    → (calls : List Call) (answers : List Answer) → Run emptied calls answers
+    → (a : ℕ) → 1 ≤ a → a ≤ 8
+    → map statusIn (answersAt (counts a) (stood calls) answers) ≡ map statusIn (loneAnswersSent a (stood calls))
+
+-- and a neighbour cannot alter them: where the lines that count as a depository's, and how each was sent, are alike in
+-- two runs, so are the statuses of its answers.
+abbrev pub NeighbourStatus : Type 0
+NeighbourStatus =
+    (lent lent′ emptied emptied′ : List ℕ) → Emptied lent emptied 0 → Emptied lent′ emptied′ 0
+    → (calls calls′ : List Call) (answers answers′ : List Answer)
+    → Run emptied calls answers → Run emptied′ calls′ answers′
+    → (a : ℕ) → 1 ≤ a → a ≤ 8
+    → keep (counts a) (stood calls) ≡ keep (counts a) (stood calls′)
+    → map statusIn (answersAt (counts a) (stood calls) answers)
+    ≡ map statusIn (answersAt (counts a) (stood calls′) answers′)
 
 -- ---- the case without batches
 

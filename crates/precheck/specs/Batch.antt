@@ -13,7 +13,7 @@ use Rattle.meaning.specs.SameBook.{SameBook}
 use Rattle.meaning.specs.Batch.{fits, batchResult, batchLines, spaceAfter}
 use Rattle.meaning.specs.Lone.{told}
 use Rattle.meaning.specs.declared.Answer.{Answer}
-use Rattle.meaning.specs.declared.Answer.the-variants.{Taken, Refused, Judged}
+use Rattle.meaning.specs.declared.Answer.the-variants.{Taken, Refused, Judged, WithStatus}
 use Rattle.meaning.specs.declared.Batch.{Batch}
 use Rattle.meaning.specs.declared.Batch.the-variants as Result
 use Rattle.meaning.specs.declared.Sent.{Sent}
@@ -46,6 +46,7 @@ unfoldable pub isTwelve : Answer → Bool
 isTwelve Taken = false
 isTwelve (Refused n) = eqb n 12
 isTwelve (Judged v) = false
+isTwelve (WithStatus v s) = false
 
 -- the lines that are not refused 12
 unfoldable pub linesTaken : List (List ℕ) → List Answer → List (List ℕ)

@@ -1,5 +1,6 @@
--- 'What a reviewer will try' (document 01): for each of these pre-checks a book and a line are named at which its
--- answer, or what it leaves, breaks the promise of `submit`. Stated here, proved in proofs/Tries. Assumes nothing.
+-- 'What a reviewer will try' and 'Slips of this trade' (document 01), and the slips of the status (document 02, request
+-- b): for each of these pre-checks a book and a line are named at which its answer, or what it leaves, breaks the
+-- promise of `submit`. Stated here, proved in proofs/Tries. Assumes nothing.
 use Prim.Native.Nat.{ℕ, zero, suc}
 use mathlib.Core.Path.{_≡_}
 use mathlib.Core.List.{List, [], _∷_, _++_}
@@ -126,3 +127,43 @@ pub record Slips : Type 0 where
   pub neighbour-changed :
       (before after : List ℕ) (answer : Answer) → LeftBy (neighboursLine ∷ []) before
       → SameBook (loneBook 1 after) M.empty → Submitted before typeLine answer after → ⊥
+
+-- ---- the slips of the status (document 02, request b)
+
+-- beside the desk example's party hold on FREE a validation hold on EUR and a rejection on account 21
+unfoldable pub statusLines : List (List ℕ)
+unfolding deskLines
+statusLines =
+    deskLines
+    ++ (bytes "T,2,20170206,8,1,2,20170207,20991231"
+    ∷ bytes "R,2,20170206,8,1,1,P,512,20170207,20991231"
+    ∷ bytes "M,2,20170206,8,1,1,,,,,,,,,,EUR"
+    ∷ bytes "T,2,20170206,7,1,1,20170207,20991231"
+    ∷ bytes "R,2,20170206,7,1,1,P,32,20170207,20991231"
+    ∷ bytes "M,2,20170206,7,1,1,,,,,,21,,,,"
+    ∷ [])
+
+pub record StatusSlips : Type 0 where
+  -- the indicator N undoes a rule's hold
+  pub undone-by-n :
+      Refuted statusLines (bytes "Q,2,20170207,1,2,DELI,FREE,,,11,20,30,N,N") (bytes "V,A,0,0,0,0,9,5,Y")
+      (bytes "V,A,0,0,0,0,9,5,N")
+  -- a validation hold counts
+  pub validation-counts :
+      Refuted statusLines (bytes "Q,2,20170207,1,2,DELI,APMT,,EUR,11,20,30,,N") (bytes "V,A,0,0,8,1,0,0,N")
+      (bytes "V,A,0,0,8,1,0,0,Y")
+  -- the default counts where the indicator is N
+  pub default-over-n :
+      Refuted statusLines (bytes "Q,2,20170207,1,2,DELI,APMT,,,11,20,30,N,Y") (bytes "V,A,0,0,0,0,0,0,N")
+      (bytes "V,A,0,0,0,0,0,0,Y")
+  -- a rejected one keeps Y
+  pub rejected-keeps-y :
+      Refuted statusLines (bytes "Q,2,20170207,1,2,DELI,FREE,,,11,21,30,Y,Y") (bytes "V,R,7,1,0,0,0,0,N")
+      (bytes "V,R,7,1,0,0,0,0,Y")
+  -- an empty default is taken
+  pub empty-default :
+      Refuted statusLines (bytes "Q,2,20170207,1,2,DELI,APMT,,,11,20,30,Y,") (bytes "F,5") (bytes "V,A,0,0,0,0,0,0,Y")
+  -- a neighbour's party hold counts: depository 1 holds nothing
+  pub neighbours-hold :
+      Refuted statusLines (bytes "Q,1,20170207,1,2,DELI,FREE,,,11,20,30,,N") (bytes "V,A,0,0,0,0,0,0,N")
+      (bytes "V,A,0,0,0,0,0,0,Y")

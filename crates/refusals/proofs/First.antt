@@ -49,7 +49,7 @@ numbered b (M.addRow w) = refl
 numbered b (M.deleteRow w) = refl
 numbered b (M.addPeriod day p) = refl
 numbered b (M.endPeriod day kind number code first last) = refl
-numbered b (M.ask q) = refl
+numbered b (M.ask q x) = refl
 
 pub earliest : (b : M.Book) (k : M.Command) → Earliest (conditions b k) (refusal b k)
 unfolding refusal

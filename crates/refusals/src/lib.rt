@@ -192,6 +192,6 @@ pub fn refusal(b: &[u8], c: Command) -> u8
         What::DeleteRow => refuse_delete_row(b, csd, w),
         What::AddPeriod(p) => refuse_add_period(b, csd, c.day, p),
         What::EndPeriod(p) => refuse_end_period(b, csd, c.day, p),
-        What::Ask(_) => 0,
+        What::Ask(_, _) => 0,
     }
 }

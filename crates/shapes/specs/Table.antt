@@ -1,4 +1,5 @@
--- The table of shapes (document 01, 'Lines'), with a number for each form and each row. Assumes nothing.
+-- The table of shapes (document 01, 'Lines'; document 02, request b), with a number for each form and each row. Assumes
+-- nothing.
 use Prim.Native.Nat.{ℕ, _-_, _≤_, _<_}
 use mathlib.Core.Path.{_≡_}
 use mathlib.Core.Bool.{cond}
@@ -23,13 +24,14 @@ use Rattle.meaning.specs.Forms.{
   movementForm,
   paymentForm,
   transactionForm,
+  wishForm,
   currencyForm,
   Shape,
   shapeQ,
   shapes,
 }
 
--- the forms that take no empty field, in the order of their numbers; every number from 15 on is the currency's
+-- the forms that take no empty field, in the order of their numbers; every number from 16 on is the currency's
 abbrev pub plainForms : List Form
 plainForms =
     csdForm
@@ -47,22 +49,26 @@ plainForms =
     ∷ movementForm
     ∷ paymentForm
     ∷ transactionForm
+    ∷ wishForm
     ∷ []
 
 abbrev pub plainForm : ℕ → Form
 plainForm n = getD plainForms n currencyForm
 
--- from 16 on a field may be empty
+-- from this number on a field may be empty
+abbrev pub emptyFrom : ℕ
+emptyFrom = 32
+
 abbrev pub formAt : ℕ → Form
-formAt n = cond (ltb n 16) (plainForm n) (optional (plainForm (n - 16)))
+formAt n = cond (ltb n emptyFrom) (plainForm n) (optional (plainForm (n - emptyFrom)))
 
 -- ---- the table of shapes
 
 -- how many rows it has
 abbrev pub rows : ℕ
-rows = 10
+rows = 11
 
--- row n; past the end that of Q
+-- row n; past the end that of the shorter Q
 abbrev pub shapeAt : ℕ → Shape
 shapeAt n = getD shapes n shapeQ
 

@@ -1,12 +1,12 @@
-// The table of shapes (document 01, 'Lines'): a row is a letter and the forms of the fields after it. Lines are read
-// and written by it.
+// The table of shapes (document 01, 'Lines', and document 02, request b): a row is a letter and the forms of the fields
+// after it. Lines are read and written by it.
 ghost use Prim.Native.Nat.{_<_};
 ghost use mathlib.Core.Path.{_≡_};
 ghost use lib.ListN.{getD};
 ghost use Rattle.meaning.specs.Forms.{csdForm, letterByte};
 ghost use Rattle.shapes.specs.Table.{formAt, formsAt, shapeAt, Counted, Row};
 
-// ---- the forms of document 01's fields, by number
+// ---- the forms of fields, by number
 
 // Numbers from 1 to a most: csd, type, object, processing, sequence, criteria, number (of a party, an account
 // or a security), party type.
@@ -25,7 +25,8 @@ pub const CR: u8 = 5;
 pub const NU: u8 = 6;
 
 pub const PT: u8 = 7;
-// Other forms: day, sign, kind, code, movement, payment, transaction, currency.
+// Other forms: day, sign, kind, code, movement, payment, transaction, wish (hold indicator and account default),
+// currency.
 pub const DY: u8 = 8;
 
 pub const SG: u8 = 9;
@@ -40,9 +41,11 @@ pub const PA: u8 = 13;
 
 pub const TR: u8 = 14;
 
-pub const CU: u8 = 15;
+pub const WI: u8 = 15;
+
+pub const CU: u8 = 16;
 // Added to the number of a form whose field may be empty.
-pub const OPTIONAL: u8 = 16;
+pub const OPTIONAL: u8 = 32;
 
 // ---- the table
 
@@ -67,8 +70,11 @@ const V8: u8 = OPTIONAL + CO;
 
 const V9: u8 = OPTIONAL + CU;
 
+// The form of a hold indicator, which may be empty; an account default may not.
+const IN: u8 = OPTIONAL + WI;
+
 // How many rows the table has. A row is named by its number.
-pub const SHAPES: u8 = 10;
+pub const SHAPES: u8 = 11;
 
 // The number of each row, for whoever writes a line of it.
 pub const SHAPE_T: u8 = 0;
@@ -89,16 +95,31 @@ pub const SHAPE_A: u8 = 7;
 
 pub const SHAPE_Z: u8 = 8;
 
-pub const SHAPE_Q: u8 = 9;
+// Q with hold indicator and account default.
+pub const SHAPE_QW: u8 = 9;
+
+pub const SHAPE_Q: u8 = 10;
 
 // The most fields that stand after a letter.
 const FIELDS: usize = 15;
 
 // The letter of each row.
-const LETTERS: [u8; 10] = [b'T', b'E', b'R', b'O', b'D', b'M', b'N', b'A', b'Z', b'Q'];
+const LETTERS: [u8; 11] = [
+    b'T',
+    b'E',
+    b'R',
+    b'O',
+    b'D',
+    b'M',
+    b'N',
+    b'A',
+    b'Z',
+    b'Q',
+    b'Q',
+];
 
 // How many fields stand after each row's letter.
-const COUNTS: [usize; 10] = [7, 5, 9, 6, 5, 15, 15, 7, 7, 11];
+const COUNTS: [usize; 11] = [7, 5, 9, 6, 5, 15, 15, 7, 7, 13, 11];
 
 // The forms of the fields after each row's letter, each row by itself: a table of all would be made anew at each use.
 // What stands after the last field is never read.
@@ -120,9 +141,11 @@ const FORMS_A: [u8; FIELDS] = [CS, DY, KI, NU, CO, DY, DY, 0, 0, 0, 0, 0, 0, 0, 
 
 const FORMS_Z: [u8; FIELDS] = [CS, DY, KI, NU, CO, DY, DY, 0, 0, 0, 0, 0, 0, 0, 0];
 
+const FORMS_QW: [u8; FIELDS] = [CS, DY, OB, PT, V1, V2, V3, V9, NU, NU, NU, IN, WI, 0, 0];
+
 const FORMS_Q: [u8; FIELDS] = [CS, DY, OB, PT, V1, V2, V3, V9, NU, NU, NU, 0, 0, 0, 0];
 
-// The index of a row; past the end Q's.
+// The index of a row; past the end the shorter Q's.
 fn row(shape: u8) -> usize
     ensures { λ r. ⌜ Row shape r ⌝ }
 {
@@ -163,6 +186,7 @@ pub fn form_number(shape: u8, k: usize) -> u8
         SHAPE_N => FORMS_N[k],
         SHAPE_A => FORMS_A[k],
         SHAPE_Z => FORMS_Z[k],
+        SHAPE_QW => FORMS_QW[k],
         _ => FORMS_Q[k],
     }
 }

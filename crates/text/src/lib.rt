@@ -1,4 +1,4 @@
-// Prints an answer, and parts a text into lines (document 01, 'The desk program').
+// Prints an answer, and parts a text into lines (document 01, 'The desk program'; document 02, request b).
 mod lines;
 mod printing;
 

@@ -10,7 +10,7 @@ use Rattle.tables.proofs.Entries.{map-entry}
 use Rattle.meaning.specs.Text.{numeral, spelled}
 use Rattle.meaning.specs.Forms.{Form, oneOf, optional, currencyForm}
 use Rattle.meaning.specs.Writing.{write}
-use Rattle.shapes.specs.Table.{plainForms, plainForm, formAt}
+use Rattle.shapes.specs.Table.{plainForms, plainForm, emptyFrom, formAt}
 use Rattle.writing.specs.Written.{added, addedAll}
 use Rattle.writing.specs.declared.bytes.Written.{Written}
 
@@ -64,19 +64,19 @@ two-form w form n k {a} {b} q h e =
 -- ---- a field that may be empty
 
 module _ (w : Written) {v : Written} (form n : ℕ) (a : v ≡ added w 44) where
-  pub filled : {r : Written} → form < 16 → r ≡ addedAll v (write (plainForm form) n) → r ≡ addedAll w (44 ∷ write (formAt form) n)
+  pub filled : {r : Written} → form < emptyFrom → r ≡ addedAll v (write (plainForm form) n) → r ≡ addedAll w (44 ∷ write (formAt form) n)
   unfolding addedAll write
-  filled h e = rw (lt-ltb form 16 h, ← a) e
+  filled h e = rw (lt-ltb form emptyFrom h, ← a) e
 
-  pub empty : 16 ≤ form → n ≡ 0 → v ≡ addedAll w (44 ∷ write (formAt form) n)
+  pub empty : emptyFrom ≤ form → n ≡ 0 → v ≡ addedAll w (44 ∷ write (formAt form) n)
   unfolding addedAll write
-  empty h e = rw (le-ltb form 16 h, e, ← a)
+  empty h e = rw (le-ltb form emptyFrom h, e, ← a)
 
   written-some : (φ : Form) (m : ℕ) → (m ≡ 0 → ⊥) → write (optional φ) m ≡ write φ m
   unfolding write
   written-some φ zero h = absurd (h refl)
   written-some φ (suc m) h = refl
 
-  pub given : {r : Written} → 16 ≤ form → (n ≡ 0 → ⊥) → r ≡ addedAll v (write (plainForm (form - 16)) n) → r ≡ addedAll w (44 ∷ write (formAt form) n)
+  pub given : {r : Written} → emptyFrom ≤ form → (n ≡ 0 → ⊥) → r ≡ addedAll v (write (plainForm (form - emptyFrom)) n) → r ≡ addedAll w (44 ∷ write (formAt form) n)
   unfolding addedAll write
-  given h z e = rw (le-ltb form 16 h, written-some (plainForm (form - 16)) n z, ← a) e
+  given h z e = rw (le-ltb form emptyFrom h, written-some (plainForm (form - emptyFrom)) n z, ← a) e

@@ -12,6 +12,7 @@ use shapes::OPTIONAL;
 use shapes::PA;
 use shapes::SG;
 use shapes::TR;
+use shapes::WI;
 ghost use Prim.Native.Nat.{_-_};
 ghost use mathlib.Core.Path.{_≡_};
 ghost use mathlib.Core.List.{[], _∷_};
@@ -62,6 +63,7 @@ fn add_plain(w: Written, form: u8, n: u32) -> Written
         MO => add_word(w, n, b"DELI", b"RECE", b""),
         PA => add_word(w, n, b"APMT", b"FREE", b""),
         TR => add_four(w, n),
+        WI => add_word(w, n, b"Y", b"N", b""),
         _ => add_three(w, n),
     }
 }

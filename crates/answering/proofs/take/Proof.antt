@@ -14,14 +14,18 @@ take-spec =
     (λ c. search (took-refusal, c .if1 .taken))
     (λ c. search needs)
     (λ c κs. search needs)
+    (λ c κs. search needs)
     (λ c. search needs)
     (λ c.
-    let asked = c .before .before .before in
+    let judged = c .before in
+    let asked = judged .before .before .before in
     let unrefused = asked .before .before in
-    took-question _ _ _ (unrefused .if1 .left) (unrefused .before .refusal .ensures .0) _ (c .judge .result)
-    (search question-of)
-    (c .judge .ensures .0)
-    (c .judge .ensures .1))
+    took-question _ _ _ (unrefused .if1 .left) (unrefused .before .refusal .ensures .0) _ _ (judged .judge .result)
+    (c .answer-to .result)
+    (question-of _ _ _ (asked .what .given .1))
+    (judged .judge .ensures .0)
+    (judged .judge .ensures .1)
+    (c .answer-to .ensures))
     (λ c κs. search needs)
     (λ c. search needs)
     (λ c. search (took-edit, not-asked)))

@@ -1,11 +1,11 @@
--- `commands::letters::question_of` meets its contract. Assumes nothing.
+-- `commands::letters::ask_of` meets its contract. Assumes nothing.
 use Rattle.commands.proofs.Decoded.{made-question}
 use borrow.Author.Needs.{needs}
-use Rattle.commands.proofs.letters.question_of.Statement.{statement}
-use Rattle.commands.proofs.letters.question_of.Tie as tie
+use Rattle.commands.proofs.letters.ask_of.Statement.{statement}
+use Rattle.commands.proofs.letters.ask_of.Tie as tie
 
-pub question-of-spec : {M : Type 1} → statement M
-question-of-spec =
+pub ask-of-spec : {M : Type 1} → statement M
+ask-of-spec =
     tie.close
     (tie.spec
     (λ c. search needs)
@@ -13,6 +13,8 @@ question-of-spec =
     (λ c. search needs)
     (λ c. search needs)
     (λ c κs. search needs)
+    (λ c. search needs)
+    (λ c. search needs)
     (λ c. search needs)
     (λ c. search needs)
     (λ c. search needs)
