@@ -126,9 +126,10 @@ BY_HAND = [
     (b"Q,2,20170207,1,2,DELI,FREE,,EUR,11,20,30,YN,Y", 5),
     (b"Q,2,20170207,1,2,,FREE,,EUR,11,20,30,Y,N", 5),
 ]
-# the desk example's answers that the program prints, one with each status, and the longest one
-PRINTED = [b"K", b"F,8", b"F,10", b"V,A,0,0,0,0,9,5", b"V,A,0,0,0,0,0,0", b"V,A,0,0,0,0,0,0,N",
-           b"V,R,255,199,200,210,220,230,Y"]
+# the desk example's answers that the program prints, one with numbers of every width, one with each status, and the
+# longest one
+PRINTED = [b"K", b"F,8", b"F,10", b"V,A,0,0,0,0,9,5", b"V,A,0,0,0,0,0,0", b"V,R,255,99,100,10,9,1",
+           b"V,A,0,0,0,0,0,0,N", b"V,R,255,199,200,210,220,230,Y"]
 
 taken, seen = [], {}
 for name in ("mixed-1", "mixed-2"):

@@ -1,5 +1,5 @@
-// A conventional restriction pre-check, written from document 01, request b of document 02 and the readings of
-// docs/DECISIONS.md alone.
+// A conventional restriction pre-check, written from document 01 and the readings of docs/DECISIONS.md alone. What
+// request b of document 02 asks was added later, by who wrote it in crates/ too: of that it is no independent witness.
 // It shares no code with crates/ and nothing about it is proved. It is built by
 //     rustc -O --edition 2021 main.rs
 // and run as `conventional flat|maps < LINES`.

@@ -60,6 +60,21 @@ fn main() {
     let accepted = verdict(false, none, none, none);
     show_answer(Answer::Judged(verdict(false, none, none, held)));
     show_answer(Answer::Judged(accepted));
+    show_answer(Answer::Judged(verdict(
+        true,
+        Deciding {
+            number: 255,
+            sequence: 99,
+        },
+        Deciding {
+            number: 100,
+            sequence: 10,
+        },
+        Deciding {
+            number: 9,
+            sequence: 1,
+        },
+    )));
     show_answer(Answer::WithStatus(accepted, false));
     let longest = verdict(
         true,
