@@ -3,7 +3,7 @@
 
 Kinds of lines and their share:
     82 %  a well-formed line (letters: see PROFILES). Keys, days and codes come from short lists, so that records
-          meet, refusals 6 to 9 occur and questions match.
+          meet, refusals 6 to 9 and 13 occur and questions match.
      6 %  a well-formed line with one field changed to a wrong or unexpected one, emptied or filled (mostly refusal 5)
      2 %  a well-formed line with a depository of 0, 9, 01, 10 or none (refusal 5)
      2 %  a well-formed line with a field more or less (refusal 4)
@@ -76,6 +76,11 @@ class Lines:
         first, last = self.day(FIRSTS), self.day(LASTS)
         return (last, first) if first > last and self.chance(90) else (first, last)
 
+    def within(self, span):
+        """A period that does not leave that one."""
+        first = self.r.choice([d for d in FIRSTS if span[0] <= d <= span[1]] + [span[0]])
+        return first, self.r.choice([d for d in LASTS if first <= d <= span[1]] + [span[1]])
+
     def number(self, usual, wide):
         return self.r.randint(1, 99) if self.wide and wide else self.r.choice(usual)
 
@@ -123,18 +128,25 @@ class Lines:
             processing = r.choice([1, 2, 3]) if key[1] == 1 or self.chance(2) else r.choice([1, 2])
             rest = [*key, processing, *span]
             if day < span[0] <= span[1]:
-                note = lambda: types.setdefault(key, True)
+                note = lambda: types.setdefault(key, span)
         elif letter == "E":
             day = self.day(FIRSTS)
-            rest = [*(self.known(types) or self.type_key()), self.day(LASTS)]
+            key, last = self.known(types) or self.type_key(), self.day(LASTS)
+            rest = [*key, last]
+
+            def note():
+                if key in types and day <= last and types[key][0] <= last <= types[key][1]:
+                    types[key] = (types[key][0], last)
         elif letter == "R":
             key = self.rule_key(types)
-            span = self.span(60)
+            # Mostly within the type's period, as far as it is known.
+            span = self.within(types[key[:2]]) if key[:2] in types and self.chance(75) else self.span(60)
             criteria = r.choice(CRITERIA) if self.chance(85) else r.randint(1, 1023)
             if self.profile == "rows":
                 criteria |= 8
             rest = [*key, "N" if self.chance(25) else "P", criteria, *span]
-            if day < span[0] <= span[1] and key[:2] in types:
+            held = types.get(key[:2], ("", ""))
+            if day < span[0] <= span[1] and held[0] <= span[0] and span[1] <= held[1]:
                 note = lambda: rules.setdefault(key, criteria)
         elif letter == "O":
             key = self.known(rules) or self.rule_key(types)

@@ -1,13 +1,13 @@
 #!/usr/bin/env python3
 """Writes what the gate runs the desk on: crates/desk/stdin, args, data/ and stdout. Standard input is the paper's
 example; each file of data/ is answered over a book emptied for it. The answers of vectors/ are an independent
-program's; those of edges.in are worked out from document 01, line by line below; lesson.in is docs/LESSON.md's and
-examples.in is docs/LINES.md's."""
+program's; those of edges.in are worked out from documents 01 and 02, line by line below; lesson.in is docs/LESSON.md's
+and examples.in is docs/LINES.md's."""
 from examples import pairs
 from output import plain
 
 DESK = "crates/desk"
-NAMES = ["marked", "mixed-1", "full-quotas"]
+NAMES = ["marked", "mixed-1", "full-quotas", "full-rules"]
 
 
 def vector(name, kind):
@@ -32,6 +32,23 @@ def edges():
     yield b"R,3,20170206,9,1,64,P,4,20170207,20991231", "F,8"  # a key that is held comes before the quota
     yield b"T,4,20170206,9,1,1,20170207,20991231", "K"
     yield b"R,4,20170206,9,1,65,P,4,20170207,20991231", "K"  # another depository's quota
+    # document 02, request c: type 8 from March to December 2017
+    yield b"T,3,20170206,8,1,1,20170301,20171231", "K"
+    yield b"R,3,20170206,9,1,64,P,4,20170206,20991231", "F,6"  # not after the line's day, before 8 and 13
+    yield b"R,3,20170206,8,2,1,P,4,20170301,20180101", "F,7"  # no such type
+    yield b"R,3,20170206,8,1,1,P,4,20170301,20180101", "F,13"  # a day after its type, and 13 before 10
+    yield b"R,3,20170206,8,1,1,P,4,20170228,20171231", "F,13"  # a day before it
+    yield b"R,3,20170206,8,1,1,P,4,20170301,20171231", "F,10"  # within it: the quota is full
+    yield b"T,4,20170206,8,1,1,20170301,20171231", "K"
+    yield b"R,4,20170206,8,1,1,P,4,20170301,20171231", "K"  # exactly its type's period
+    yield b"R,4,20170206,8,1,1,P,4,20170301,20180101", "F,8"  # the key is held, before 13
+    yield b"E,4,20170206,8,1,20170630", "K"  # under a rule that outlives it
+    yield b"R,4,20170206,8,1,2,P,4,20170301,20171231", "F,13"  # the type's present period
+    yield b"R,4,20170206,8,1,2,P,4,20170630,20170630", "K"  # its last day
+    yield b"M,4,20170206,8,1,1,,,FREE,,,,,,,", "K"  # M looks at no period
+    yield b"O,4,20170206,8,1,1,3", "K"  # nor does O
+    yield b"Q,4,20170630,1,2,DELI,FREE,,EUR,11,20,30", "V,R,8,3,0,0,0,0"  # both periods hold the day
+    yield b"Q,4,20170701,1,2,DELI,FREE,,EUR,11,20,30", "V,A,0,0,0,0,0,0"  # the rule's alone
     yield b"", "F,2"
     yield b"", "F,2"
     yield b"Q,3,20170207,1,2,DELI,FREE,,EUR,11,20,30", "V,A,0,0,0,0,0,0"  # rules without rows; the last line has no byte 10

@@ -1,5 +1,7 @@
 // A conventional restriction pre-check, written from document 01 and the readings of docs/DECISIONS.md alone. What
 // request b of document 02 asks was added later, by who wrote it in crates/ too: of that it is no independent witness.
+// What request c asks was added after that from the papers alone (document 02 and REQUESTS.md), by somebody who has
+// not read crates/.
 // It shares no code with crates/ and nothing about it is proved. It is built by
 //     rustc -O --edition 2021 main.rs
 // and run as `conventional flat|maps < LINES`.
@@ -634,10 +636,13 @@ impl Flat {
                 if record.first <= day {
                     return Err(6);
                 }
-                self.find_type(record.csd, record.number, record.object).ok_or(7)?;
+                let t = &self.types[self.find_type(record.csd, record.number, record.object).ok_or(7)?];
                 let key = RuleKey { number: record.number, object: record.object, sequence: record.sequence };
                 if self.find_rule(record.csd, key).is_some() {
                     return Err(8);
+                }
+                if record.first < t.first || t.last < record.last {
+                    return Err(13);
                 }
                 if self.rules.iter().filter(|r| r.csd == record.csd).count() >= RULE_QUOTA {
                     return Err(10);
@@ -838,6 +843,9 @@ impl Depository {
                 let t = self.types.get_mut(&(record.object, record.number)).ok_or(7)?;
                 if t.rules.contains_key(&record.sequence) {
                     return Err(8);
+                }
+                if record.first < t.first || t.last < record.last {
+                    return Err(13);
                 }
                 if self.rules_held >= RULE_QUOTA {
                     return Err(10);

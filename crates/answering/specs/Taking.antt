@@ -29,7 +29,7 @@ use Rattle.answering.specs.Promise.{SubmittedAs}
 
 -- ---- a command
 
--- refusals 6 to 10; 0 for none
+-- the refusals that read the lists or compare days; 0 for none
 unfoldable pub refusalOf : List ℕ → Command → ℕ
 refusalOf b c = refusal (loneBook (c .csd) b) (asked c)
 

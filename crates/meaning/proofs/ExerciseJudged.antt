@@ -1,20 +1,20 @@
 -- How a question is judged when a rule and its rows have another sequence: each rule applies as it did, so only the
 -- sequence that is named can differ.
 use Prim.Native.Nat.{ℕ}
-use mathlib.Core.Path.{_≡_, refl, ap, ap₂, sym, _∙_, fun-ext}
+use mathlib.Core.Path.{_≡_, refl, ap₂, sym, _∙_}
 use mathlib.Core.Bool.{Bool, true, false, cond, not, _&&_}
-use lib.Dec.{eqb}
 use borrow.Author.Tests.{not-true}
 use Rattle.tables.specs.Count.{has, every, change, least}
 use Rattle.tables.proofs.Counts.{cases}
 use Rattle.tables.proofs.Lists.{has-false, every-none}
 use Rattle.tables.proofs.Least.{has-agree, has-alter, least-alter, least-agree}
-use Rattle.meaning.specs.Records.{Rule, Row, Book, Question, positive, negative, reorder}
+use Rattle.meaning.specs.Records.{Rule, Row, Book, Question, positive, reorder}
 use Rattle.meaning.specs.Keys.{isRule, ofRule}
 use Rattle.meaning.specs.Edits.{ruleMoved, rowMoved, edited}
-use Rattle.meaning.specs.Judging.{covers, meetsAll, tests, matches, ruleApplies, applies, named, deciding}
+use Rattle.meaning.specs.Judging.{meetsAll, tests, matches, ruleApplies, named, deciding}
 use Rattle.meaning.proofs.Keys.{rule-key, of-key, is-rule, is-of}
 use Rattle.meaning.proofs.Listed.{not-so}
+use Rattle.meaning.proofs.ExerciseVerdict.{named-alike}
 
 module _ (n o s new : ℕ) where
   -- the record, moved if it is the rule's
@@ -104,19 +104,10 @@ module _ (n o s new : ℕ) where
         has-alter (ruleApplies moved q type sign) ruleAfter (b .rules)
         ∙ has-agree _ _ _ (b .rules) rules-free (applies-after type sign)
 
-    type-after : (processing : ℕ) → applies moved q processing ≡ applies b q processing
-    unfolding applies
-    type-after processing =
-        fun-ext (λ t.
-        ap₂
-        (λ spoken exempt.
-        eqb (t .object) (q .object) && eqb (t .processing) processing && covers (t .first) (t .last) (q .day) && spoken && not exempt)
-        (some-after (t .type) positive) (some-after (t .type) negative))
-
     -- the types that are named stay
     pub named-after : (processing : ℕ) → named moved q processing ≡ named b q processing
-    unfolding named edited
-    named-after processing = ap (λ p. least (λ t. t .type) p (b .types)) (type-after processing)
+    unfolding edited
+    named-after = named-alike b moved q refl some-after
 
     -- the sequence named is the least, the moved rule counted at its new place
     pub deciding-after : (type : ℕ)

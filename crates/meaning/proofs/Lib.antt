@@ -32,3 +32,6 @@ pub mod ExerciseWithoutRows
 pub mod ExerciseDesks
 pub mod Holding
 pub mod HoldExamples
+pub mod Within
+pub mod WithinLines
+pub mod WithinJudged

@@ -11,7 +11,7 @@ use Rattle.tables.proofs.Lists.{same-length, same-has, same-least, same-cons, s
 use Rattle.meaning.specs.Records.{_!_, TypeRecord, Rule, Row, Period, Book, Question, Command, commandOf, questionIn, addType, endType, addRule, reorder, deleteRule, addRow, deleteRow, addPeriod, endPeriod, ask, positive, negative, party, account, security, rejection, validationHold, partyHold}
 use Rattle.meaning.specs.Reading.{Reading, refused, asks, reading}
 use Rattle.meaning.specs.Keys.{isType, isRule, ofRule, isRow, isPeriod, clash}
-use Rattle.meaning.specs.Refusals.{typeOutside, periodOutside, otherCriteria, firstOf, conditions, refusal}
+use Rattle.meaning.specs.Refusals.{typeOutside, leaves, periodOutside, otherCriteria, firstOf, conditions, refusal}
 use Rattle.meaning.specs.Edits.{typeUntil, ruleMoved, rowMoved, periodUntil, edited}
 use Rattle.meaning.specs.Judging.{covers, meetsAll, hasCode, tests, matches, ruleApplies, applies, named, deciding, decided, verdict, judged}
 use Rattle.meaning.specs.Lone.{Step, elsewhere, replied, reply, unless, takenSent, afterReading, stepSent, step, answersSent, told, answersFrom}
@@ -44,6 +44,7 @@ module _ (b c : Book) (s : SameBook b c) where
       rw (
         types-has (isType (r .type) (r .object)),
         rules-has (isRule (r .type) (r .object) (r .sequence)),
+        types-has (leaves r),
         same-length (b .rules) (c .rules) (s .rules),
       )
   conditions-same (reorder type object sequence new) = rw (rules-has (isRule type object sequence), rules-has (isRule type object new))

@@ -20,3 +20,4 @@ pub mod Nobody
 pub mod Exactly
 pub mod Exercise
 pub mod Holding
+pub mod Within

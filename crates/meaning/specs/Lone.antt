@@ -82,7 +82,7 @@ unfoldable pub keeps : Sent → Book → List ℕ → Bool
 unfolding keepsRead reading
 keeps how b line = keepsRead how b (reading line)
 
--- each line is tested for refusals 2 to 5, 12 and 6 to 10 in order
+-- each line is tested for the refusals from 2 on, in their order
 unfoldable pub stepSent : Sent → Book → List ℕ → Step
 unfolding afterReading reading
 stepSent how b line = afterReading how b (reading line)

@@ -1,5 +1,6 @@
 -- Refusal 5 as far as no single field shows it, refusal 12 of a line in a batch (document 02, request a), and refusals
--- 6 to 10 in the order of document 01's list (its 'Refused lines'). Assumes nothing.
+-- 6 to 10 in the order of document 01's list (its 'Refused lines'), with 13 after 9 and before 10 (document 02, request
+-- c). Assumes nothing.
 use Prim.Native.Nat.{ℕ}
 use mathlib.Core.Bool.{Bool, false, not, cond, _&&_, _||_}
 use mathlib.Core.List.{List, [], _∷_}
@@ -51,16 +52,21 @@ abbrev pub firstOf : List (ℕ × Bool) → ℕ
 firstOf [] = 0
 firstOf (c ∷ cs) = cond (c .1) (c .0) (firstOf cs)
 
--- the new last day is before the record's first or after its present last
+-- the day is before the record's first or after its present last
 abbrev pub outside : ℕ → ℕ → ℕ → Bool
-outside new first last = ltb new first || ltb last new
+outside day first last = ltb day first || ltb last day
 
--- the named type's days do not hold the new last day
+-- the named type's period does not hold the day
 unfoldable pub typeOutside : ℕ → ℕ → ℕ → TypeRecord → Bool
 unfolding isType
-typeOutside type object new t = isType type object t && outside new (t .first) (t .last)
+typeOutside type object day t = isType type object t && outside day (t .first) (t .last)
 
--- the named period's days do not hold it
+-- 'R's period leaves the type's period': either end is outside the present period of the rule's type (document 02, c)
+unfoldable pub leaves : Rule → TypeRecord → Bool
+unfolding typeOutside
+leaves r t = typeOutside (r .type) (r .object) (r .first) t || typeOutside (r .type) (r .object) (r .last) t
+
+-- the named period does not hold the new last day
 unfoldable pub periodOutside : ℕ → ℕ → ℕ → ℕ → ℕ → Period → Bool
 unfolding isPeriod
 periodOutside kind number code first new p = isPeriod kind number code first p && outside new (p .first) (p .last)
@@ -72,7 +78,7 @@ otherCriteria w r = isRule (w .type) (w .object) (w .sequence) r && not (eqb (r 
 
 -- the conditions of a command, each with its number
 unfoldable pub conditions : Book → Command → List (ℕ × Bool)
-unfolding has isType isRule ofRule isRow isPeriod clash typeOutside periodOutside otherCriteria
+unfolding has isType isRule ofRule isRow isPeriod clash typeOutside leaves periodOutside otherCriteria
 conditions b (addType day t) =
     (6, leb (t .first) day)
     ∷ (8, has (isType (t .type) (t .object)) (b .types))
@@ -87,6 +93,7 @@ conditions b (addRule day r) =
     (6, leb (r .first) day)
     ∷ (7, not (has (isType (r .type) (r .object)) (b .types)))
     ∷ (8, has (isRule (r .type) (r .object) (r .sequence)) (b .rules))
+    ∷ (13, has (leaves r) (b .types))
     ∷ (10, leb ruleQuota (length (b .rules)))
     ∷ []
 conditions b (reorder type object sequence new) =

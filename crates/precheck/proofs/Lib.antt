@@ -2,3 +2,4 @@ pub mod Alone
 pub mod Runs
 pub mod Singly
 pub mod Tries
+pub mod Within

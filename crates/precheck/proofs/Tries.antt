@@ -14,6 +14,7 @@ use Rattle.meaning.specs.Records as M
 use Rattle.meaning.specs.SameBook.{SameBook}
 use Rattle.meaning.specs.Lone.{told, afterSent, stepSent, step, after, names, counts}
 use Rattle.meaning.specs.Printing.{printed}
+use Rattle.meaning.specs.Within.{shortenedLines}
 use Rattle.meaning.specs.declared.Answer.{Answer}
 use Rattle.meaning.specs.declared.Answer.the-variants.{Taken}
 use Rattle.meaning.specs.declared.Sent.the-variants.{Alone}
@@ -26,13 +27,13 @@ use Rattle.book.specs.Sound.{sound}
 use Rattle.book.proofs.NoRecords.{emptied-yes, emptied-sound, emptied-lone}
 use Rattle.book.proofs.SameBooks.{same-books, same-then}
 use Rattle.precheck.specs.Promise.{Submitted}
-use Rattle.precheck.specs.Tries.{LeftBy, SomeLeft, Refuted, typeLine, neighboursLine, deskLines, ruleLine, ruleLines, Tries, kelerBook, movedLines, Slips, statusLines, StatusSlips}
+use Rattle.precheck.specs.Tries.{LeftBy, SomeLeft, Refuted, typeLine, neighboursLine, deskLines, ruleLine, ruleLines, Tries, kelerBook, movedLines, Slips, statusLines, StatusSlips, PeriodSlips}
 use Rattle.precheck.proofs.Alone.{Fed, from, keep-alone, shared-answer, named-after, other-after}
 use Rattle.precheck.proofs.Runs.{some-steps}
 
 -- ---- there are such books
 
-some-left : (lines : List (List ℕ)) → SomeLeft lines
+pub some-left : (lines : List (List ℕ)) → SomeLeft lines
 some-left lines =
     let r = some-steps (zeros bookSize) (told Alone lines) in
     let size = length-zeros bookSize in
@@ -51,19 +52,19 @@ some-left lines =
 
 module _ (lines : List (List ℕ)) (b : List ℕ) (l : LeftBy lines b) where
   -- a's lone book fed with them, which is empty at first
-  fed : (a : ℕ) (low : 1 ≤ a) (high : a ≤ 8) → Fed a low high M.empty (told Alone lines) (l .answers) b
+  pub fed : (a : ℕ) (low : 1 ≤ a) (high : a ≤ 8) → Fed a low high M.empty (told Alone lines) (l .answers) b
   fed a low high =
       from a low high (l .steps) M.empty (emptied-sound (l .lent) (l .start) (l .emptied))
       (same-books (emptied-lone (l .lent) (l .start) (l .emptied) a low))
 
-  held-sound : sound b ≡ true
+  pub held-sound : sound b ≡ true
   held-sound = fed 1 (omega arith) (omega arith) .stays
 
   module _ (a : ℕ) (low : 1 ≤ a) (high : a ≤ 8) where
     abbrev m : M.Book
     m = after M.empty (keep (names a) lines)
 
-    held : SameBook (loneBook a b) m
+    pub held : SameBook (loneBook a b) m
     unfolding after
     held = subst (SameBook (loneBook a b)) (ap (afterSent M.empty) (keep-alone a lines)) (fed a low high .left)
 
@@ -167,4 +168,19 @@ status-slips = record {
   rejected-keeps-y = refuted 2 (omega arith) (omega arith) (record { own = refl; answer = refl; other = refl });
   empty-default = refuted 2 (omega arith) (omega arith) (record { own = refl; answer = refl; other = refl });
   neighbours-hold = refuted 1 (omega arith) (omega arith) (record { own = refl; answer = refl; other = refl });
+}
+
+pub period-slips : PeriodSlips
+unfolding ruleLine ruleLines shortenedLines names keep after step printed
+period-slips = record {
+  thirteen-before-eight = refuted 2 (omega arith) (omega arith) (record { own = refl; answer = refl; other = refl });
+  thirteen-after-ten = refuted 2 (omega arith) (omega arith) (record { own = refl; answer = refl; other = refl });
+  only-the-last-day = refuted 2 (omega arith) (omega arith) (record { own = refl; answer = refl; other = refl });
+  only-the-first-day = refuted 2 (omega arith) (omega arith) (record { own = refl; answer = refl; other = refl });
+  period-at-entry = refuted 2 (omega arith) (omega arith) (record { own = refl; answer = refl; other = refl });
+  end-refused = λ n. refuted 2 (omega arith) (omega arith) (record { own = refl; answer = refl; other = refl });
+  soundness-asks-it = refuted 2 (omega arith) (omega arith) (record { own = refl; answer = refl; other = refl });
+  stored-ones-ignored = refuted 2 (omega arith) (omega arith) (record { own = refl; answer = refl; other = refl });
+  works-after-its-type = refuted 2 (omega arith) (omega arith) (record { own = refl; answer = refl; other = refl });
+  neighbours-type = refuted 1 (omega arith) (omega arith) (record { own = refl; answer = refl; other = refl });
 }

@@ -1,6 +1,6 @@
--- 'What a reviewer will try' and 'Slips of this trade' (document 01), and the slips of the status (document 02, request
--- b): for each of these pre-checks a book and a line are named at which its answer, or what it leaves, breaks the
--- promise of `submit`. Stated here, proved in proofs/Tries. Assumes nothing.
+-- 'What a reviewer will try' and 'Slips of this trade' (document 01), and the slips of the status and of a rule's
+-- period (document 02, requests b and c): for each of these pre-checks a book and a line are named at which its answer,
+-- or what it leaves, breaks the promise of `submit`. Stated here, proved in proofs/Tries. Assumes nothing.
 use Prim.Native.Nat.{ℕ, zero, suc}
 use mathlib.Core.Path.{_≡_}
 use mathlib.Core.List.{List, [], _∷_, _++_}
@@ -10,6 +10,7 @@ use Rattle.meaning.specs.SameBook.{SameBook}
 use Rattle.meaning.specs.Lone.{told}
 use Rattle.meaning.specs.Printing.{printed}
 use Rattle.meaning.specs.Keler.{kelerLines}
+use Rattle.meaning.specs.Within.{shortenedLines}
 use Rattle.meaning.specs.declared.Answer.{Answer}
 use Rattle.meaning.specs.declared.Answer.the-variants.{Taken, Refused}
 use Rattle.meaning.specs.declared.Sent.the-variants.{Alone}
@@ -167,3 +168,51 @@ pub record StatusSlips : Type 0 where
   pub neighbours-hold :
       Refuted statusLines (bytes "Q,1,20170207,1,2,DELI,FREE,,,11,20,30,,N") (bytes "V,A,0,0,0,0,0,0,N")
       (bytes "V,A,0,0,0,0,0,0,Y")
+
+-- ---- the slips of a rule's period (document 02, request c)
+
+-- depository 2's type 8, from March to December 2017, and an E that shortens it to June
+abbrev pub shortType : List ℕ
+shortType = bytes "T,2,20170206,8,1,1,20170301,20171231"
+
+abbrev pub shortenedType : List ℕ
+shortenedType = bytes "E,2,20170206,8,1,20170630"
+
+pub record PeriodSlips : Type 0 where
+  -- 13 before 8: the sequence is held
+  pub thirteen-before-eight :
+      Refuted (shortType ∷ bytes "R,2,20170206,8,1,1,P,4,20170301,20171231" ∷ [])
+      (bytes "R,2,20170206,8,1,1,P,4,20170301,20180101") (bytes "F,8") (bytes "F,13")
+  -- 13 after 10: 64 rules are held
+  pub thirteen-after-ten :
+      Refuted (typeLine ∷ shortType ∷ ruleLines 2 64) (bytes "R,2,20170206,8,1,1,P,4,20170301,20180101")
+      (bytes "F,13") (bytes "F,10")
+  -- only the last day compared: the rule begins a day before its type
+  pub only-the-last-day :
+      Refuted (shortType ∷ []) (bytes "R,2,20170206,8,1,1,P,4,20170228,20171231") (bytes "F,13") (bytes "K")
+  -- only the first day compared: it ends a day after its type
+  pub only-the-first-day :
+      Refuted (shortType ∷ []) (bytes "R,2,20170206,8,1,1,P,4,20170301,20180101") (bytes "F,13") (bytes "K")
+  -- the type's period at entry instead of its present one
+  pub period-at-entry :
+      Refuted (shortType ∷ shortenedType ∷ []) (bytes "R,2,20170206,8,1,1,P,4,20170301,20171231") (bytes "F,13") (bytes "K")
+  -- an E refused, by whatever number, because a rule would outlive its type
+  pub end-refused :
+      (n : ℕ)
+      → Refuted (shortType ∷ bytes "R,2,20170206,8,1,1,P,4,20170301,20171231" ∷ []) shortenedType (bytes "K")
+      (printed (Refused n))
+  -- soundness asking it: a rule that outlives its type would bring 1
+  pub soundness-asks-it :
+      Refuted shortenedLines (bytes "Q,2,20170630,1,2,DELI,FREE,,EUR,11,20,30") (bytes "V,R,9,5,0,0,0,0") (bytes "F,1")
+  -- such a rule no longer working on a day when both periods hold
+  pub stored-ones-ignored :
+      Refuted shortenedLines (bytes "Q,2,20170630,1,2,DELI,FREE,,EUR,11,20,30") (bytes "V,R,9,5,0,0,0,0")
+      (bytes "V,A,0,0,0,0,0,0")
+  -- or still working on a day that only the rule's period holds
+  pub works-after-its-type :
+      Refuted shortenedLines (bytes "Q,2,20170701,1,2,DELI,FREE,,EUR,11,20,30") (bytes "V,A,0,0,0,0,0,0")
+      (bytes "V,R,9,5,0,0,0,0")
+  -- a neighbour's period counts: depository 1 has the same type for longer
+  pub neighbours-type :
+      Refuted (shortType ∷ bytes "T,1,20170206,8,1,1,20170301,20991231" ∷ [])
+      (bytes "R,1,20170206,8,1,1,P,4,20170301,20180101") (bytes "K") (bytes "F,13")

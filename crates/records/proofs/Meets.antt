@@ -1,13 +1,13 @@
 -- What the arms of the code's matches on a question return.
 use Prim.Native.Nat.{ℕ}
 use mathlib.Core.Path.{_≡_, sym, _∙_}
-use mathlib.Core.Bool.{Bool, true, false, not}
+use mathlib.Core.Bool.{Bool, true, false, not, _&&_}
 use lib.Dec.{eqb}
 use Rattle.meaning.specs.Records as M
 use Rattle.meaning.specs.Keys.{isRule, isRow, filled}
 use Rattle.meaning.specs.Text.{same}
 use Rattle.meaning.specs.Sound.{fillsRule}
-use Rattle.meaning.specs.Refusals.{otherCriteria}
+use Rattle.meaning.specs.Refusals.{outside, typeOutside, otherCriteria}
 use Rattle.records.specs.Asks.{typeMeets, ruleMeets, rowMeets, periodMeets}
 use Rattle.records.specs.declared.TypeAsk.{TypeAsk}
 use Rattle.records.specs.declared.TypeAsk.the-variants as Types
@@ -24,6 +24,11 @@ type-any q t e = rw e
 
 pub type-met : (q q′ : TypeAsk) (t : M.TypeRecord) (r : Bool) → q ≡ q′ → r ≡ typeMeets q′ t → r ≡ typeMeets q t
 type-met q q′ t r e f = rw (e, f)
+
+pub type-outside : (t : M.TypeRecord) (n o day : ℕ) (k s r : Bool) → k ≡ typeMeets (Types.Named n o) t
+    → s ≡ outside day (t .first) (t .last) → r ≡ (k && s) → r ≡ typeMeets (Types.Outside n o day) t
+unfolding typeMeets typeOutside
+type-outside t n o day k s r e f g = rw (g, e, f)
 
 pub rule-any : (q : RuleAsk) (w : M.Row) (t : M.Rule) → q ≡ Rules.Any → true ≡ ruleMeets q w t
 unfolding ruleMeets

@@ -17,7 +17,7 @@ use Rattle.records.specs.declared.PeriodAsk.the-variants as Periods
 unfoldable pub typeMeets : TypeAsk → M.TypeRecord → Bool
 typeMeets Types.Any t = true
 typeMeets (Types.Named n o) t = isType n o t
-typeMeets (Types.Outside n o last) t = typeOutside n o last t
+typeMeets (Types.Outside n o day) t = typeOutside n o day t
 
 -- a row stands beside what is asked of a rule, since no enum of the code may hold an array: Fills and Other ask for its
 -- rule

@@ -21,7 +21,7 @@ use places::Rule;
 
 // ---- What is asked of a record.
 
-// Outside: the type of that number and object, whose days do not hold the new last day.
+// Outside: the type of that number and object, whose period does not hold the day.
 pub enum TypeAsk {
     Any,
     Named(u8, u8),
@@ -103,11 +103,11 @@ pub fn fills(criteria: u32, v: [u32; 10]) -> bool
 
 // ---- Whether a record is as asked (document 01, 'Records').
 
-// The new last day is before the record's first or after its present last.
-fn is_outside(last: u32, first: u32, present: u32) -> bool
-    ensures { λ r. ⌜ r ≡ outside last first present ⌝ }
+// The day is before the record's first or after its present last.
+fn is_outside(day: u32, first: u32, last: u32) -> bool
+    ensures { λ r. ⌜ r ≡ outside day first last ⌝ }
 {
-    or(last < first, present < last)
+    or(day < first, last < day)
 }
 
 fn is_type(t: RestrictionType, number: u8, object: u8) -> bool
@@ -116,13 +116,10 @@ fn is_type(t: RestrictionType, number: u8, object: u8) -> bool
     and(t.number == number, t.object == object)
 }
 
-fn type_outside(t: RestrictionType, number: u8, object: u8, last: u32) -> bool
-    ensures { λ r. ⌜ r ≡ typeMeets (TypeAsk.Outside number object last) (typeOf t) ⌝ }
+fn type_outside(t: RestrictionType, number: u8, object: u8, day: u32) -> bool
+    ensures { λ r. ⌜ r ≡ typeMeets (TypeAsk.Outside number object day) (typeOf t) ⌝ }
 {
-    and(
-        is_type(t, number, object),
-        is_outside(last, t.first, t.last),
-    )
+    and(is_type(t, number, object), is_outside(day, t.first, t.last))
 }
 
 pub fn type_meets(t: RestrictionType, q: TypeAsk) -> bool
@@ -131,7 +128,7 @@ pub fn type_meets(t: RestrictionType, q: TypeAsk) -> bool
     match q {
         TypeAsk::Any => true,
         TypeAsk::Named(number, object) => is_type(t, number, object),
-        TypeAsk::Outside(number, object, last) => type_outside(t, number, object, last),
+        TypeAsk::Outside(number, object, day) => type_outside(t, number, object, day),
     }
 }
 

@@ -1,13 +1,14 @@
 -- What the refusals of each letter show, from what the calls ensure.
 use Prim.Native.Nat.{ℕ}
-use mathlib.Core.Path.{_≡_}
-use mathlib.Core.Bool.{Bool, not, cond}
+use mathlib.Core.Path.{_≡_, sym}
+use mathlib.Core.Bool.{Bool, not, cond, _||_}
 use mathlib.Core.List.{List}
 use lib.Dec.{leb, ltb}
 use lib.ListN.{length}
 use Rattle.tables.specs.Count.{has}
+use Rattle.tables.proofs.Lists.{has-either}
 use Rattle.meaning.specs.Records as M
-use Rattle.meaning.specs.Refusals.{conditions, refusal}
+use Rattle.meaning.specs.Refusals.{leaves, conditions, refusal}
 use Rattle.places.specs.declared.RestrictionType.{RestrictionType}
 use Rattle.places.specs.declared.Rule.{Rule}
 use Rattle.places.specs.declared.Row.{Row}
@@ -39,14 +40,19 @@ module _ (b : List ℕ) (c d x y z u : ℕ) where
   unfolding refusal typeMeets
   refused-end-type n o last held out none e f g h i j = rw (e, f, g, h, i, j)
 
-  pub refused-add-rule : (r : Rule) (w : M.Row) (typed held full none : Bool) → x ≡ cond (leb (r .first) d) 6 y
-      → y ≡ cond none 7 z → none ≡ not typed → z ≡ cond held 8 u → u ≡ cond full 10 0
+  pub refused-add-rule : (v : ℕ) (r : Rule) (w : M.Row) (typed held begins ends left full none : Bool)
+      → x ≡ cond (leb (r .first) d) 6 y → y ≡ cond none 7 z → none ≡ not typed → z ≡ cond held 8 u
+      → u ≡ cond left 13 v → left ≡ (begins || ends) → v ≡ cond full 10 0
       → full ≡ leb M.ruleQuota (length (rulesOf c b))
+      → ends ≡ has (typeMeets (Types.Outside (r .number) (r .object) (r .last))) (typesOf c b)
+      → begins ≡ has (typeMeets (Types.Outside (r .number) (r .object) (r .first))) (typesOf c b)
       → held ≡ has (ruleMeets (Rules.Named (r .number) (r .object) (r .sequence)) w) (rulesOf c b)
       → typed ≡ has (typeMeets (Types.Named (r .number) (r .object))) (typesOf c b)
       → x ≡ refusal (loneBook c b) (M.addRule d (ruleOf r))
-  unfolding refusal typeMeets ruleMeets ruleOf
-  refused-add-rule r w typed held full none e f g h i j k l = rw (e, f, g, h, i, j, k, l)
+  unfolding refusal typeMeets ruleMeets ruleOf leaves
+  refused-add-rule v r w typed held begins ends left full none e f g h i j k l m n o p =
+      let either : left ≡ has (leaves (ruleOf r)) (typesOf c b) = rw (j, m, n) (sym (has-either _ _ (typesOf c b))) in
+      rw (e, f, g, h, i, either, k, l, o, p)
 
   pub refused-reorder : (n o s new : ℕ) (w : M.Row) (held taken none : Bool) → x ≡ cond none 7 y → y ≡ cond taken 8 0
       → none ≡ not held → taken ≡ has (ruleMeets (Rules.Named n o new) w) (rulesOf c b)

@@ -1,4 +1,5 @@
-// Refusals 6 to 10 of a command over the lent book: the first whose condition holds (document 01, 'Refused lines').
+// Refusals 6 to 10 and 13 of a command over the lent book: the first whose condition holds (document 01, 'Refused
+// lines'; document 02, request c).
 ghost use mathlib.Core.Path.{_≡_};
 ghost use mathlib.Core.Bool.{cond};
 ghost use lib.Dec.{leb};
@@ -12,6 +13,7 @@ ghost use Rattle.book.specs.Lone.{typesOf, rulesOf, rowsOf, periodsOf, loneBook
 ghost use Rattle.commands.specs.Asked.{asked};
 ghost use Rattle.refusals.specs.Earliest.{Earliest};
 use basics::no;
+use basics::or;
 use book::count_periods;
 use book::count_rows;
 use book::count_rules;
@@ -84,7 +86,7 @@ fn full_periods(b: &[u8], a: u8) -> bool
     Period::QUOTA <= count_periods(b, a, PeriodAsk::Any)
 }
 
-// ---- Refusals 6 to 10 of each letter, in order.
+// ---- Refusals 6 to 10 of each letter, in order; of R 13 after 8 and before 10.
 
 fn refuse_add_type(b: &[u8], csd: u8, day: u32, r: RestrictionType) -> u8
     ensures { λ x. ⌜ x ≡ refusal (loneBook csd (now (b .entry))) (addType day (typeOf r)) ⌝ }
@@ -102,15 +104,19 @@ fn refuse_end_type(b: &[u8], csd: u8, day: u32, number: u8, object: u8, last: u3
     when(last < day, 6, when(no(held), 7, when(outside, 9, 0)))
 }
 
+// 13: either end of the rule's period is outside that of its type.
 fn refuse_add_rule(b: &[u8], csd: u8, day: u32, r: Rule) -> u8
     ensures { λ x. ⌜ x ≡ refusal (loneBook csd (now (b .entry))) (addRule day (ruleOf r)) ⌝ }
 {
     let typed = has_type(b, csd, TypeAsk::Named(r.number, r.object));
     let named = RuleAsk::Named(r.number, r.object, r.sequence);
     let held = has_rule(b, csd, named, Row::zero());
+    let begins_outside = has_type(b, csd, TypeAsk::Outside(r.number, r.object, r.first));
+    let ends_outside = has_type(b, csd, TypeAsk::Outside(r.number, r.object, r.last));
+    let leaves = or(begins_outside, ends_outside);
     let full = full_rules(b, csd);
-    let late = when(held, 8, when(full, 10, 0));
-    when(r.first <= day, 6, when(no(typed), 7, late))
+    let late = when(leaves, 13, when(full, 10, 0));
+    when(r.first <= day, 6, when(no(typed), 7, when(held, 8, late)))
 }
 
 fn refuse_reorder(b: &[u8], csd: u8, number: u8, object: u8, sequence: u8, new: u8) -> u8
@@ -173,7 +179,7 @@ fn refuse_end_period(b: &[u8], csd: u8, day: u32, p: Period) -> u8
 
 // ---- Of a command.
 
-// The earliest of 6 to 10 whose condition holds over the depository's lone book, 0 where none does: no condition of the
+// The earliest of these whose condition holds over the depository's lone book, 0 where none does: no condition of the
 // list is a question's.
 pub fn refusal(b: &[u8], c: Command) -> u8
     ensures meant { λ r. ⌜ r ≡ refusal (loneBook (c .csd) (now (b .entry))) (asked c) ⌝ }

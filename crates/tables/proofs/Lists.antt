@@ -2,7 +2,7 @@
 -- list carries no meaning.
 use Prim.Native.Nat.{ℕ, zero, suc, _+_, _≤_, _<_, min}
 use mathlib.Core.Path.{_≡_, refl, ap, sym, _∙_}
-use mathlib.Core.Bool.{Bool, true, false, _&&_, _||_, not, cond, false≢true}
+use mathlib.Core.Bool.{Bool, true, false, _&&_, _||_, not, cond, or-true, false≢true}
 use mathlib.Core.List.{List, [], _∷_}
 use native.Mathlib.Omega.{arith}
 use lib.Dec.{ltb, leb}
@@ -10,6 +10,11 @@ use lib.ListN.{length}
 use borrow.Author.Tests.{ltb-true, ltb-false, lt-ltb, leb-true, leb-false, le-leb, lt-leb}
 use Rattle.tables.specs.Count.{bit, lesser, count, has, every, keep, alter, without, change, least, Same}
 use Rattle.tables.proofs.Counts.{cases, both, agree, bit-none, count-keep, count-alter, count-length, every-count}
+
+or-parted : (a b c d : Bool) → ((a || b) || (c || d)) ≡ ((a || c) || (b || d))
+or-parted true b c d = refl
+or-parted false b true d = or-true b
+or-parted false b false d = refl
 
 -- whether n is a number from 1 to k
 
@@ -62,6 +67,14 @@ module _ {R : Type 0} where
   pub true-has : (p : R → Bool) (l : List R) → 0 < count p l → has p l ≡ true
   unfolding has
   true-has p l h = lt-ltb 0 (count p l) h
+
+  -- one passes either test exactly if one passes the first or one passes the second
+  pub has-either : (p q : R → Bool) (l : List R) → has (λ x. p x || q x) l ≡ (has p l || has q l)
+  unfolding has
+  has-either p q [] = refl
+  has-either p q (x ∷ l) =
+      rw (has-cons (λ x. p x || q x) x l, has-cons p x l, has-cons q x l, has-either p q l)
+      (or-parted (p x) (q x) (has p l) (has q l))
 
   pub count-no : (p : R → Bool) (x : R) (l : List R) → p x ≡ false → count p (x ∷ l) ≡ count p l
   unfolding count
