@@ -14,23 +14,6 @@ use Rattle.meaning.specs.declared.Verdict.{Verdict}
 
 -- ---- what is judged
 
--- a book with the same types, of each of which a rule applies exactly if one did, names the same types
-module _ (b c : Book) (q : Question) (e : c .types ≡ b .types)
-    (some : (type sign : ℕ) → has (ruleApplies c q type sign) (c .rules) ≡ has (ruleApplies b q type sign) (b .rules))
-  where
-    applies-alike : (processing : ℕ) → applies c q processing ≡ applies b q processing
-    unfolding applies
-    applies-alike processing =
-        fun-ext (λ t.
-        ap₂
-        (λ spoken exempt.
-        eqb (t .object) (q .object) && eqb (t .processing) processing && covers (t .first) (t .last) (q .day) && spoken && not exempt)
-        (some (t .type) positive) (some (t .type) negative))
-
-    pub named-alike : (processing : ℕ) → named c q processing ≡ named b q processing
-    unfolding named
-    named-alike processing = ap₂ (least (λ t. t .type)) (applies-alike processing) e
-
 -- a book that names the same types, with sequences by f
 module _ (b c : Book) (q : Question) (f : ℕ → ℕ) (d : (type : ℕ) → deciding c q type ≡ f type) where
   decided-by : (type : ℕ) → decided c q type ≡ sequenced f (decided b q type .number)
@@ -52,6 +35,27 @@ module _ (b c : Book) (q : Question) (f : ℕ → ℕ) (d : (type : ℕ) → dec
 
 pub judged-own : (b : Book) (q : Question) → judged b q ≡ resequenced (deciding b q) (judged b q)
 judged-own b q = judged-by b b q (deciding b q) (λ type. refl) (λ processing. refl)
+
+-- a book with the same types, of each of which a rule applies exactly if one did, names the same types
+module _ (b c : Book) (q : Question) (e : c .types ≡ b .types)
+    (some : (type sign : ℕ) → has (ruleApplies c q type sign) (c .rules) ≡ has (ruleApplies b q type sign) (b .rules))
+  where
+    applies-alike : (processing : ℕ) → applies c q processing ≡ applies b q processing
+    unfolding applies
+    applies-alike processing =
+        fun-ext (λ t.
+        ap₂
+        (λ spoken exempt.
+        eqb (t .object) (q .object) && eqb (t .processing) processing && covers (t .first) (t .last) (q .day) && spoken && not exempt)
+        (some (t .type) positive) (some (t .type) negative))
+
+    pub named-alike : (processing : ℕ) → named c q processing ≡ named b q processing
+    unfolding named
+    named-alike processing = ap₂ (least (λ t. t .type)) (applies-alike processing) e
+
+    -- and is judged alike where the same rules decide
+    pub judged-alike : ((type : ℕ) → deciding c q type ≡ deciding b q type) → judged c q ≡ judged b q
+    judged-alike d = judged-by b c q (deciding b q) d named-alike ∙ sym (judged-own b q)
 
 -- ---- the types stay
 

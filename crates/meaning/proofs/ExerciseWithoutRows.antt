@@ -1,17 +1,16 @@
 -- A rule without rows applies to no question: entered or taken out, it changes no answer.
 use Prim.Native.Nat.{ℕ}
-use mathlib.Core.Path.{_≡_, refl, ap, ap₂, sym, _∙_, fun-ext}
-use mathlib.Core.Bool.{true, false, not, _&&_}
+use mathlib.Core.Path.{_≡_, refl, ap, sym, _∙_}
+use mathlib.Core.Bool.{true, false, not}
 use mathlib.Core.List.{List, _∷_}
-use lib.Dec.{eqb}
 use Rattle.tables.specs.Count.{has, every, without, least}
 use Rattle.tables.proofs.Lists.{has-cons}
 use Rattle.tables.proofs.Least.{has-keep, least-keep}
-use Rattle.meaning.specs.Records.{Rule, Book, Question, addRule, deleteRule, positive, negative}
+use Rattle.meaning.specs.Records.{Rule, Book, Question, addRule, deleteRule, positive}
 use Rattle.meaning.specs.Keys.{isRule, ofRule}
 use Rattle.meaning.specs.Refusals.{conditions}
 use Rattle.meaning.specs.Edits.{withRules, edited}
-use Rattle.meaning.specs.Judging.{covers, tests, matches, ruleApplies, applies, named, deciding, judged}
+use Rattle.meaning.specs.Judging.{tests, matches, ruleApplies, deciding, judged}
 use Rattle.meaning.specs.Exercise.{WithoutRowsEntered, WithoutRowsDeleted}
 use Rattle.meaning.proofs.First.{command-not-refused}
 use Rattle.meaning.proofs.Keys.{rule-self}
@@ -19,33 +18,24 @@ use Rattle.meaning.proofs.Listed.{not-so}
 use Rattle.meaning.proofs.Good.{good-of-sound}
 use Rattle.meaning.proofs.KeptOrder.{no-rows}
 use Rattle.meaning.proofs.ExerciseLines.{accepted}
-use Rattle.meaning.proofs.ExerciseVerdict.{judged-by, judged-own}
+use Rattle.meaning.proofs.ExerciseVerdict.{judged-alike}
 use Rattle.meaning.proofs.ExerciseMoved.{has-row, applied-matches}
 
 -- other rules of which the same apply
 module _ (b : Book) (q : Question) (rules : List Rule)
     (some : (type sign : ℕ) → has (ruleApplies b q type sign) rules ≡ has (ruleApplies b q type sign) (b .rules))
     (first : (type : ℕ) → least (λ r. r .sequence) (ruleApplies b q type positive) rules ≡ deciding b q type) where
-  type-applies : (processing : ℕ) → applies (withRules rules b) q processing ≡ applies b q processing
-  unfolding applies ruleApplies matches tests
-  type-applies processing =
-      fun-ext (λ t.
-      ap₂
-      (λ spoken exempt.
-      eqb (t .object) (q .object) && eqb (t .processing) processing && covers (t .first) (t .last) (q .day) && spoken && not exempt)
-      (some (t .type) positive) (some (t .type) negative))
-
-  type-named : (processing : ℕ) → named (withRules rules b) q processing ≡ named b q processing
-  unfolding named
-  type-named processing = ap (λ p. least (λ t. t .type) p (b .types)) (type-applies processing)
+  rules-apply : (type sign : ℕ)
+      → has (ruleApplies (withRules rules b) q type sign) rules ≡ has (ruleApplies b q type sign) (b .rules)
+  unfolding ruleApplies matches tests
+  rules-apply = some
 
   rule-decides : (type : ℕ) → deciding (withRules rules b) q type ≡ deciding b q type
   unfolding deciding ruleApplies matches tests
   rule-decides type = first type
 
-  judged-alike : judged (withRules rules b) q ≡ judged b q
-  judged-alike =
-      judged-by b (withRules rules b) q (deciding b q) rule-decides type-named ∙ sym (judged-own b q)
+  rules-judge : judged (withRules rules b) q ≡ judged b q
+  rules-judge = judged-alike b (withRules rules b) q refl rules-apply rule-decides
 
 -- no row, so it does not apply
 unapplied : (b : Book) (q : Question) (n o s : ℕ) → has (ofRule n o s) (b .rows) ≡ false → (type sign : ℕ) (x : Rule)
@@ -62,7 +52,7 @@ without-rows-entered b e day r lines t q =
     let no : (type sign : ℕ) → ruleApplies b q type sign r ≡ false =
     λ type sign. unapplied b q (r .type) (r .object) (r .sequence) none type sign r (rule-self r) in
     ap (λ c. judged c q) l
-    ∙ judged-alike b q (r ∷ b .rules) (λ type sign. has-cons (ruleApplies b q type sign) r (b .rules) ∙ rw (no type sign))
+    ∙ rules-judge b q (r ∷ b .rules) (λ type sign. has-cons (ruleApplies b q type sign) r (b .rules) ∙ rw (no type sign))
     (λ type. rw (no type positive))
 
 pub without-rows-deleted : WithoutRowsDeleted
@@ -73,6 +63,6 @@ without-rows-deleted b n o s lines t q =
     let stays : (type sign : ℕ) (x : Rule) → ruleApplies b q type sign x ≡ true → not (isRule n o s x) ≡ true =
     λ type sign x p. ap not (not-so (isRule n o s x) false refl (λ y. sym (unapplied b q n o s none type sign x y) ∙ p)) in
     ap (λ c. judged c q) l
-    ∙ judged-alike b q (without (isRule n o s) (b .rules))
+    ∙ rules-judge b q (without (isRule n o s) (b .rules))
     (λ type sign. has-keep (ruleApplies b q type sign) (λ x. not (isRule n o s x)) (b .rules) (stays type sign))
     (λ type. least-keep (λ r. r .sequence) (ruleApplies b q type positive) (λ x. not (isRule n o s x)) (b .rules) (stays type positive))

@@ -1,7 +1,7 @@
 -- On a day that a rule's period and its type's both hold, questions are judged as if the rule lay within its type; on
 -- any other day it does not count.
 use Prim.Native.Nat.{ℕ}
-use mathlib.Core.Path.{_≡_, refl, sym, _∙_}
+use mathlib.Core.Path.{_≡_, refl, _∙_}
 use mathlib.Core.Bool.{Bool, true, cond, not, _&&_, _||_, and-false}
 use lib.Dec.{eqb}
 use Rattle.tables.specs.Count.{has, every, change}
@@ -10,7 +10,7 @@ use Rattle.tables.proofs.Least.{has-agree, has-alter, least-alter, least-agree}
 use Rattle.meaning.specs.Records.{TypeRecord, Rule, Book, Question, positive}
 use Rattle.meaning.specs.Keys.{isRule}
 use Rattle.meaning.specs.Judging.{covers, tests, matches, ruleApplies, applies, deciding}
-use Rattle.meaning.proofs.ExerciseVerdict.{named-alike, judged-by, judged-own}
+use Rattle.meaning.proofs.ExerciseVerdict.{judged-alike}
 use Rattle.meaning.specs.Within.{ruleDays, withTypesPeriod, KeepsWorking, AppliesWithin}
 
 module _ (b : Book) (t : TypeRecord) (s : ℕ) (q : Question) (now : covers (t .first) (t .last) (q .day) ≡ true) where
@@ -18,42 +18,40 @@ module _ (b : Book) (t : TypeRecord) (s : ℕ) (q : Question) (now : covers (t .
   here r = not (isRule (t .type) (t .object) s r) || covers (r .first) (r .last) (q .day)
 
   -- the rule, with the type's period if it is the one named
-  abbrev cut : Rule → Rule
-  cut r = cond (isRule (t .type) (t .object) s r) (ruleDays (t .first) (t .last) r) r
+  abbrev changed : Rule → Rule
+  changed r = cond (isRule (t .type) (t .object) s r) (ruleDays (t .first) (t .last) r) r
 
-  abbrev cutBook : Book
-  cutBook = withTypesPeriod t s b
+  abbrev changedBook : Book
+  changedBook = withTypesPeriod t s b
 
-  cut-sequence : (r : Rule) → cut r .sequence ≡ r .sequence
-  cut-sequence r = cases (isRule (t .type) (t .object) s r) (λ e. rw e) (λ e. rw e)
+  same-sequence : (r : Rule) → changed r .sequence ≡ r .sequence
+  same-sequence r = cases (isRule (t .type) (t .object) s r) (λ e. rw e) (λ e. rw e)
 
-  applies-cut : (type sign : ℕ) (r : Rule) → here r ≡ true
-      → ruleApplies cutBook q type sign (cut r) ≡ ruleApplies b q type sign r
+  applies-changed : (type sign : ℕ) (r : Rule) → here r ≡ true
+      → ruleApplies changedBook q type sign (changed r) ≡ ruleApplies b q type sign r
   unfolding ruleApplies matches tests
-  applies-cut type sign r h =
+  applies-changed type sign r h =
       cases (isRule (t .type) (t .object) s r)
       (λ e. let held : covers (r .first) (r .last) (q .day) ≡ true = rw e at h in rw (e, now, held))
       (λ e. rw e)
 
   module _ (held : every here (b .rules) ≡ true) where
-    some-cut : (type sign : ℕ)
-        → has (ruleApplies cutBook q type sign) (cutBook .rules) ≡ has (ruleApplies b q type sign) (b .rules)
+    some-changed : (type sign : ℕ)
+        → has (ruleApplies changedBook q type sign) (changedBook .rules) ≡ has (ruleApplies b q type sign) (b .rules)
     unfolding change
-    some-cut type sign =
-        has-alter (ruleApplies cutBook q type sign) cut (b .rules)
-        ∙ has-agree here _ _ (b .rules) held (applies-cut type sign)
+    some-changed type sign =
+        has-alter (ruleApplies changedBook q type sign) changed (b .rules)
+        ∙ has-agree here _ _ (b .rules) held (applies-changed type sign)
 
-    deciding-cut : (type : ℕ) → deciding cutBook q type ≡ deciding b q type
+    deciding-changed : (type : ℕ) → deciding changedBook q type ≡ deciding b q type
     unfolding deciding change
-    deciding-cut type =
-        least-alter (λ r. r .sequence) (ruleApplies cutBook q type positive) cut (b .rules)
-        ∙ least-agree here _ _ _ _ (b .rules) held (applies-cut type positive) (λ r e z. cut-sequence r)
+    deciding-changed type =
+        least-alter (λ r. r .sequence) (ruleApplies changedBook q type positive) changed (b .rules)
+        ∙ least-agree here _ _ _ _ (b .rules) held (applies-changed type positive) (λ r e z. same-sequence r)
 
 pub keeps-working : KeepsWorking
 keeps-working b t s q now held =
-    judged-by b (withTypesPeriod t s b) q (deciding b q) (deciding-cut b t s q now held)
-    (named-alike b (withTypesPeriod t s b) q refl (some-cut b t s q now held))
-    ∙ sym (judged-own b q)
+    judged-alike b (withTypesPeriod t s b) q refl (some-changed b t s q now held) (deciding-changed b t s q now held)
 
 pub applies-within : AppliesWithin
 unfolding applies ruleApplies

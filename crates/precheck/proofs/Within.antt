@@ -1,7 +1,5 @@
 -- From an emptied book on every rule lies within its type where no E is sent; and a sound book in which one does not.
-use Prim.Native.Nat.{ℕ}
-use mathlib.Core.Path.{_≡_, _∙_}
-use mathlib.Core.List.{List}
+use mathlib.Core.Path.{_∙_}
 use native.Mathlib.Omega.{arith}
 use Rattle.tables.specs.Count.{keep}
 use Rattle.meaning.specs.Records as M
