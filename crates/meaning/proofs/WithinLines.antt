@@ -17,7 +17,7 @@ use Rattle.meaning.specs.Edits.{ruleMoved, withTypes, withRules, edited}
 use Rattle.meaning.specs.Lone.{elsewhere, unless, takenSent, taken, afterReading, stepSent, answers, after, afterSent}
 use Rattle.meaning.specs.SameBook.{SameBook}
 use Rattle.meaning.specs.Sound.{soundLone}
-use Rattle.meaning.specs.Within.{holdsRule, allWithin, isE, sendsE, StaysWithin, WithinAlone, shortenedLines, SoundOutside}
+use Rattle.meaning.specs.Within.{holdsRule, allWithin, isE, sendsE, someE, StaysWithin, WithinAlone, shortenedLines, SoundOutside}
 use Rattle.meaning.specs.declared.Sent.{Sent}
 use Rattle.meaning.proofs.First.{command-not-refused}
 use Rattle.meaning.proofs.Listed.{every-cons, has-more, has-where, every-change}
@@ -98,10 +98,10 @@ read-within how b h (asks l v) e =
 -- ---- lines
 
 pub stays-within : StaysWithin
-unfolding afterSent stepSent sendsE
+unfolding afterSent stepSent sendsE someE
 stays-within b [] h n = h
 stays-within b (l ∷ lines) h n =
-    let c = neither (sendsE (l .1)) (has (λ l. sendsE (l .1)) lines) (sym (has-cons (λ l. sendsE (l .1)) l lines) ∙ n) in
+    let c = neither (sendsE (l .1)) (someE lines) (sym (has-cons (λ l. sendsE (l .1)) l lines) ∙ n) in
     stays-within (stepSent (l .0) b (l .1) .book) lines (read-within (l .0) b h (reading (l .1)) (c .0)) (c .1)
 
 empty-within : allWithin empty ≡ true

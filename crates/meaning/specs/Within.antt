@@ -75,16 +75,21 @@ unfoldable pub sendsE : List ℕ → Bool
 unfolding isE reading
 sendsE line = isE (reading line)
 
+-- whether one of the lines is
+unfoldable pub someE : List (Sent × List ℕ) → Bool
+unfolding has sendsE
+someE lines = has (λ l. sendsE (l .1)) lines
+
 -- A book in which every rule lies within its type stays so, whatever lines are sent, unless one of them is an E.
 abbrev pub StaysWithin : Type 0
 StaysWithin =
-    (b : Book) (lines : List (Sent × List ℕ)) → allWithin b ≡ true → has (λ l. sendsE (l .1)) lines ≡ false
+    (b : Book) (lines : List (Sent × List ℕ)) → allWithin b ≡ true → someE lines ≡ false
     → allWithin (afterSent b lines) ≡ true
 
 -- So it is with the lone book, which is empty at first.
 abbrev pub WithinAlone : Type 0
 WithinAlone =
-    (lines : List (Sent × List ℕ)) → has (λ l. sendsE (l .1)) lines ≡ false → allWithin (afterSent empty lines) ≡ true
+    (lines : List (Sent × List ℕ)) → someE lines ≡ false → allWithin (afterSent empty lines) ≡ true
 
 -- ---- 'E may still shorten a type under them'
 

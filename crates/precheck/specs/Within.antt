@@ -4,9 +4,9 @@ use Prim.Native.Nat.{ℕ, _≤_}
 use mathlib.Core.Path.{_≡_}
 use mathlib.Core.Bool.{true, false}
 use mathlib.Core.List.{List}
-use Rattle.tables.specs.Count.{has, keep}
+use Rattle.tables.specs.Count.{keep}
 use Rattle.meaning.specs.Lone.{counts}
-use Rattle.meaning.specs.Within.{allWithin, sendsE, shortenedLines}
+use Rattle.meaning.specs.Within.{allWithin, someE, shortenedLines}
 use Rattle.meaning.specs.declared.Answer.{Answer}
 use Rattle.meaning.specs.declared.Sent.{Sent}
 use Rattle.book.specs.Emptied.{Emptied}
@@ -22,7 +22,7 @@ WithinTypes =
     (lent emptied after : List ℕ) → Emptied lent emptied 0
     → (lines : List (Sent × List ℕ)) (answers : List Answer) → Steps emptied lines answers after
     → (a : ℕ) → 1 ≤ a → a ≤ 8
-    → has (λ l. sendsE (l .1)) (keep (counts a) lines) ≡ false
+    → someE (keep (counts a) lines) ≡ false
     → allWithin (loneBook a after) ≡ true
 
 -- The lines that shorten a type under its rule leave a book, and every book that they leave is sound and has a rule
