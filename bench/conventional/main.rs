@@ -1,7 +1,7 @@
 // A conventional restriction pre-check, written from document 01 and the readings of docs/DECISIONS.md alone. What
 // request b of document 02 asks was added later, by who wrote it in crates/ too: of that it is no independent witness.
-// What request c asks was added after that from the papers alone (document 02 and REQUESTS.md), by somebody who has
-// not read crates/.
+// What request c asks was added after that from the papers alone (document 02 and REQUESTS.md), by a helper of who
+// wrote it in crates/: it was told the readings and which cases to try, and has not read crates/.
 // It shares no code with crates/ and nothing about it is proved. It is built by
 //     rustc -O --edition 2021 main.rs
 // and run as `conventional flat|maps < LINES`.

@@ -1,16 +1,17 @@
 -- Verdicts of the same types with other sequences: what they name.
 use Prim.Native.Nat.{ℕ, zero, suc, _≤_}
 use mathlib.Core.Path.{_≡_, refl, ap, ap₂, sym, _∙_, fun-ext}
-use mathlib.Core.Bool.{Bool, true, false, not, _&&_, _||_, or-true, false≢true}
+use mathlib.Core.Bool.{Bool, true, false, _&&_, _||_, or-true, false≢true}
 use native.Mathlib.Omega.{arith}
 use lib.Dec.{eqb}
 use borrow.Author.Tests.{eqb-true, eq-eqb}
 use Rattle.tables.specs.Count.{has, least}
 use Rattle.tables.proofs.Counts.{cases, both, neither}
-use Rattle.meaning.specs.Records.{Book, Question, positive, negative, rejection, validationHold, partyHold}
-use Rattle.meaning.specs.Judging.{by, covers, ruleApplies, applies, named, deciding, decided, verdict, judged}
+use Rattle.meaning.specs.Records.{Book, Question, rejection, validationHold, partyHold}
+use Rattle.meaning.specs.Judging.{by, ruleApplies, named, deciding, decided, verdict, judged}
 use Rattle.meaning.specs.Exercise.{sequenced, resequenced, SameTypes, isDeciding, namesRule}
 use Rattle.meaning.specs.declared.Verdict.{Verdict}
+use Rattle.meaning.proofs.Order.{applies-alike}
 
 -- ---- what is judged
 
@@ -40,18 +41,9 @@ judged-own b q = judged-by b b q (deciding b q) (λ type. refl) (λ processing. 
 module _ (b c : Book) (q : Question) (e : c .types ≡ b .types)
     (some : (type sign : ℕ) → has (ruleApplies c q type sign) (c .rules) ≡ has (ruleApplies b q type sign) (b .rules))
   where
-    applies-alike : (processing : ℕ) → applies c q processing ≡ applies b q processing
-    unfolding applies
-    applies-alike processing =
-        fun-ext (λ t.
-        ap₂
-        (λ spoken exempt.
-        eqb (t .object) (q .object) && eqb (t .processing) processing && covers (t .first) (t .last) (q .day) && spoken && not exempt)
-        (some (t .type) positive) (some (t .type) negative))
-
     pub named-alike : (processing : ℕ) → named c q processing ≡ named b q processing
     unfolding named
-    named-alike processing = ap₂ (least (λ t. t .type)) (applies-alike processing) e
+    named-alike processing = ap₂ (least (λ t. t .type)) (applies-alike c b q some processing) e
 
     -- and is judged alike where the same rules decide
     pub judged-alike : ((type : ℕ) → deciding c q type ≡ deciding b q type) → judged c q ≡ judged b q

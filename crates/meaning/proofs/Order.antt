@@ -21,6 +21,18 @@ use Rattle.meaning.specs.Status.{answerTo}
 use Rattle.meaning.specs.declared.Sent.{Sent}
 use Rattle.meaning.specs.declared.Sent.the-variants.{Alone}
 
+-- where a rule of each type and sign applies in both books or in neither, the same types apply
+pub applies-alike : (b c : Book) (q : Question)
+    → ((type sign : ℕ) → has (ruleApplies b q type sign) (b .rules) ≡ has (ruleApplies c q type sign) (c .rules))
+    → (processing : ℕ) → applies b q processing ≡ applies c q processing
+unfolding applies
+applies-alike b c q alike processing =
+    fun-ext (λ t.
+    ap₂
+    (λ spoken exempt.
+    eqb (t .object) (q .object) && eqb (t .processing) processing && covers (t .first) (t .last) (q .day) && spoken && not exempt)
+    (alike (t .type) positive) (alike (t .type) negative))
+
 module _ (b c : Book) (s : SameBook b c) where
   -- what is asked of each list
   types-has : (p : TypeRecord → Bool) → has p (b .types) ≡ has p (c .types)
@@ -116,13 +128,7 @@ module _ (b c : Book) (s : SameBook b c) where
     some-ruleApplies-same type sign = rules-has _ ∙ ap (λ p. has p (c .rules)) (ruleApplies-same type sign)
 
     applies-same : (processing : ℕ) → applies b q processing ≡ applies c q processing
-    unfolding applies
-    applies-same processing =
-        fun-ext (λ t.
-        ap₂
-        (λ spoken exempt.
-        eqb (t .object) (q .object) && eqb (t .processing) processing && covers (t .first) (t .last) (q .day) && spoken && not exempt)
-        (some-ruleApplies-same (t .type) positive) (some-ruleApplies-same (t .type) negative))
+    applies-same = applies-alike b c q some-ruleApplies-same
 
     named-same : (processing : ℕ) → named b q processing ≡ named c q processing
     unfolding named
