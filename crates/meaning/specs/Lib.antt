@@ -8,7 +8,9 @@ pub mod Reading
 pub mod Sound
 pub mod Edits
 pub mod Judging
+pub mod Scope
 pub mod Status
+pub mod Pending
 pub mod Lone
 pub mod Printing
 pub mod Desk

@@ -1,5 +1,5 @@
 -- The records of a lone book, and what a line asks, by name (document 01, 'Records' and the table of letters; document
--- 02, request b). Assumes nothing. A lone book is one depository's, so its records do not have the csd.
+-- 02, requests b and d). Assumes nothing. A lone book is one depository's, so its records do not have the csd.
 use Prim.Native.Nat.{ℕ}
 use mathlib.Core.List.{List, [], _∷_}
 use mathlib.Core.Option.{Option, some, none}
@@ -68,6 +68,25 @@ pub record Period : Type 0 where
   pub code : ℕ
   pub first : ℕ
   pub last : ℕ
+
+-- A pending instruction that is kept with its holds (document 02, request d): its reference, the nine fields of S from
+-- object to security, the day on which the validation hold and the party hold were put on, 0 where that hold is off,
+-- and the types remembered, of which a negative rule matched at S or at a W: their numbers, each once, rising.
+-- No book holds one yet.
+pub record Kept : Type 0 where
+  pub reference : ℕ
+  pub object : ℕ
+  pub partyType : ℕ
+  pub movement : ℕ
+  pub payment : ℕ
+  pub transaction : ℕ
+  pub currency : ℕ
+  pub party : ℕ
+  pub account : ℕ
+  pub security : ℕ
+  pub validating : ℕ
+  pub holding : ℕ
+  pub remembered : List ℕ
 
 pub record Book : Type 0 where
   pub types : List TypeRecord
