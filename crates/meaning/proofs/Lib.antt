@@ -35,3 +35,5 @@ pub mod HoldExamples
 pub mod Within
 pub mod WithinLines
 pub mod WithinJudged
+pub mod Remembered
+pub mod Keeping

@@ -11,6 +11,7 @@ pub mod Judging
 pub mod Scope
 pub mod Status
 pub mod Pending
+pub mod Keeping
 pub mod Lone
 pub mod Printing
 pub mod Desk

@@ -7,6 +7,7 @@ use mathlib.Core.List.{List, [], _∷_}
 use mathlib.Core.Option.{Option, some, none}
 use lib.Dec.{eqb}
 use Rattle.tables.specs.Count.{has, keep}
+use Rattle.meaning.specs.Text.{same}
 use Rattle.meaning.specs.Records.{TypeRecord, Kept, Book, Question, negative, validationHold, partyHold}
 use Rattle.meaning.specs.Judging.{covers, ruleApplies, judged}
 use Rattle.meaning.specs.Scope.{Scope, scoped, isNew, onlyNew}
@@ -17,23 +18,29 @@ use Rattle.meaning.specs.declared.Verdict.{Verdict}
 -- ---- the types remembered
 
 -- so many numbers, from n on
-abbrev pub numbersFrom : ℕ → ℕ → List ℕ
+unfoldable pub numbersFrom : ℕ → ℕ → List ℕ
 numbersFrom n zero = []
 numbersFrom n (suc k) = n ∷ numbersFrom (suc n) k
 
 -- the numbers that a type may have
 unfoldable pub typeNumbers : List ℕ
+unfolding numbersFrom
 typeNumbers = numbersFrom 1 99
 
 -- those of them that pass a test, each once, rising
 unfoldable pub typesWhich : (ℕ → Bool) → List ℕ
-unfolding keep typeNumbers
+unfolding keep
 typesWhich p = keep p typeNumbers
 
 -- whether a number is in a list
 unfoldable pub among : List ℕ → ℕ → Bool
 unfolding has
 among l n = has (λ m. eqb m n) l
+
+-- a list of such numbers, each once, rising: what its own test leaves of them
+unfoldable pub areTypes : List ℕ → Bool
+unfolding typesWhich among
+areTypes l = same (typesWhich (among l)) l
 
 -- ---- its holds
 

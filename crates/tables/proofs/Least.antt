@@ -9,7 +9,7 @@ use lib.Dec.{eqb, ltb, leb}
 use borrow.Author.Tests.{eqb-true, eq-eqb, leb-true, le-leb, leb-false, ltb-true, lt-ltb, lt-leb, not-true, ltb-false}
 use Rattle.tables.specs.Count.{count, has, every, keep, alter, least}
 use Rattle.tables.proofs.Counts.{cases, cases-eq, both, ands, count-ext, count-keep, count-alter}
-use Rattle.tables.proofs.Lists.{low, low-least, has-true, has-false, true-has, every-none, every-both, every-any, some-of, count-under}
+use Rattle.tables.proofs.Lists.{low, low-least, has-cons, has-true, has-false, true-has, every-none, every-both, every-any, some-of, count-under}
 
 -- what low says
 pub low-true : (k n : ℕ) → low k n ≡ true → (1 ≤ n) × (n ≤ k)
@@ -99,6 +99,33 @@ module _ {R : Type 0} where
       cases (p x)
       (λ e. rw (h x e, least-keep f p q l h))
       (λ e. cases (q x) (λ z. rw (z, least-keep f p q l h)) (λ z. rw (z, e, least-keep f p q l h)))
+
+  -- one that is kept passes exactly if one passes both
+  pub has-kept : (p q : R → Bool) (l : List R) → has p (keep q l) ≡ has (λ x. q x && p x) l
+  unfolding has
+  has-kept p q l = ap (ltb 0) (count-keep p q l)
+
+  -- nothing is taken out where all pass
+  pub keep-any : (l : List R) → keep (λ x. true) l ≡ l
+  unfolding keep
+  keep-any [] = refl
+  keep-any (x ∷ l) = rw (keep-any l) refl
+
+  -- where none that is kept passes, there is none and no least
+  pub has-none : (p q : R → Bool) (l : List R) → ((x : R) → q x ≡ true → p x ≡ false) → has p (keep q l) ≡ false
+  unfolding has keep count
+  has-none p q [] h = refl
+  has-none p q (x ∷ l) h =
+      cases (q x)
+      (λ e. rw e (has-cons p x (keep q l) ∙ rw (h x e) (has-none p q l h)))
+      (λ e. rw e (has-none p q l h))
+
+  pub least-none : (f : R → ℕ) (p q : R → Bool) (l : List R) → ((x : R) → q x ≡ true → p x ≡ false)
+      → least f p (keep q l) ≡ 0
+  unfolding least keep
+  least-none f p q [] h = refl
+  least-none f p q (x ∷ l) h =
+      cases (q x) (λ e. rw (e, h x e, least-none f p q l h) refl) (λ e. rw e (least-none f p q l h))
 
   module _ (f : R → ℕ) (p : R → Bool) (l : List R) where
     -- a record that passes is at least the least, which then is there
