@@ -1,4 +1,6 @@
 pub mod Judging
 pub mod VerdictReturns
 pub mod Listing
+pub mod RulesRight
 pub mod VerdictRight
+pub mod ExemptedRight

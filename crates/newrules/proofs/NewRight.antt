@@ -61,10 +61,10 @@ rule-order true true o′ x s n h = rw (sym h, and-true (s && n)) (and-comm x (s
 rule-order true false o′ x s n h = rw (sym h, and-false (s && n))
 
 module _ (b : List ℕ) (q : Question) (s : soundLone (loneBook (q .csd) b) ≡ true) where
-  -- 1. A marked type is one of the question's object that began then.
-  low : (i : ℕ) → i < typePlaces → typeAt b i .csd ≡ q .csd → typeAt b i .number < 100
+  -- The numbers of types are keys.
+  pub type-low : (i : ℕ) → i < typePlaces → typeAt b i .csd ≡ q .csd → typeAt b i .number < 100
   unfolding typesOf typeOf typeFits keyFits holds
-  low i l o =
+  type-low i l o =
       let g = good-of-sound (loneBook (q .csd) b) s in
       let e = every-at (λ t. t .csd) typeOf (q .csd) typeFits (typeAt b) typePlaces (g .typesFit) i l o in
       let number = leb-true (typeAt b i .number) 99 (search ands) in
@@ -73,13 +73,14 @@ module _ (b : List ℕ) (q : Question) (s : soundLone (loneBook (q .csd) b) ≡ 
   few : (t : RestrictionType) → whenBegun (t .first) (q .day) < 3
   few t = cases (eqb (t .first) (q .day)) (λ e. rw e (omega arith)) (λ e. rw e (omega arith))
 
+  -- 1. A marked type is one of the question's object that began then.
   begun : (n w : ℕ) → w < 3
       → typesBegun b q (begunKey n w)
       ≡ anyBelow (λ i. eqb (typeAt b i .csd) (q .csd) && (hasBegun q (typeAt b i) && (eqb (whenBegun (typeAt b i .first) (q .day)) w && eqb (typeAt b i .number) n))) typePlaces
   unfolding typesBegun
   begun n w h =
       keys-all begunKeys (λ t. t .csd) (q .csd) (typeAt b) (firstKey q) (hasBegun q) typePlaces
-      (λ i l o e. omega (arith, low i l o, few (typeAt b i))) (begunKey n w)
+      (λ i l o e. omega (arith, type-low i l o, few (typeAt b i))) (begunKey n w)
       ∙ any-same _ _ typePlaces
       (λ i l.
       ap (λ k. eqb (typeAt b i .csd) (q .csd) && (hasBegun q (typeAt b i) && k))
