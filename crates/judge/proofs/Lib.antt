@@ -4,3 +4,4 @@ pub mod Listing
 pub mod RulesRight
 pub mod VerdictRight
 pub mod ExemptedRight
+pub mod Starting

@@ -262,9 +262,9 @@ fn types_named(b: &[u8], q: Question, s: Scope, passed: &[u8], signs: &[u8]) -> 
 fn type_exempted(q: Question, signs: &[u8], t: RestrictionType) -> bool
     ensures { λ r. ⌜ r ≡ typeExempted q (marked (now (signs .entry))) t ⌝ }
 {
-    let current = covers(t.first, t.last, q.day);
-    let negative = is_marked(signs, type_key(t.number, Rule::NEGATIVE));
-    and(and(t.object == q.object, current), negative)
+    let in_force = covers(t.first, t.last, q.day);
+    let exempts = is_marked(signs, type_key(t.number, Rule::NEGATIVE));
+    and(and(t.object == q.object, in_force), exempts)
 }
 
 // Marks the number of the type at a place, if it is exempted.
