@@ -1,17 +1,26 @@
 -- What the returns of the functions on rules, types and the verdict leave to show.
-use Prim.Native.Nat.{ℕ}
-use mathlib.Core.Path.{_≡_, ap, _∙_}
-use mathlib.Core.Bool.{Bool, _&&_, not, cond}
+use Prim.Native.Nat.{ℕ, zero, suc}
+use mathlib.Core.Path.{_≡_, refl, ap, _∙_}
+use mathlib.Core.Bool.{Bool, false, _&&_, _||_, not, cond}
+use mathlib.Core.List.{[], _∷_}
 use lib.Dec.{eqb}
 use borrow.Author.Tests.{ne-eqb}
+use Rattle.tables.specs.Keyed.{marked}
 use Rattle.meaning.specs.Records.{positive, negative, rejection, validationHold, partyHold}
 use Rattle.meaning.specs.Judging.{covers, by}
 use Rattle.meaning.specs.declared.Deciding.{Deciding}
 use Rattle.places.specs.declared.RestrictionType.{RestrictionType}
 use Rattle.places.specs.declared.Rule.{Rule}
 use Rattle.matching.specs.MatchedRows.{ruleKey}
-use Rattle.judge.specs.Stages.{typeKey, ruleMatches, ruleOfType, firstRule, typeApplies, decided, verdict}
+use Rattle.judge.specs.Stages.{typeKey, ruleMatches, ruleOfType, firstRule, typeApplies, typeExempted, decided, verdict}
+use Rattle.judge.specs.Within.{typePassed}
+use Rattle.judge.specs.declared.Scope.{Scope}
 use Rattle.commands.specs.declared.Question.{Question}
+
+-- a table of one entry that is no mark
+pub none-marked : (k : ℕ) → marked (0 ∷ []) k ≡ false
+none-marked zero = refl
+none-marked (suc k) = refl
 
 pub rule-by : (rows : ℕ → Bool) (q : Question) (r : Rule) (k : ℕ) (d m y x : Bool)
     → x ≡ (eqb (r .object) (q .object) && y) → y ≡ (d && m) → m ≡ rows k → k ≡ ruleKey (r .number) (r .sequence)
@@ -24,12 +33,27 @@ pub of-type-by : (rows : ℕ → Bool) (q : Question) (type : ℕ) (r : Rule) (m
 unfolding ruleOfType
 of-type-by rows q type r m x ex em = rw (ex, em)
 
-pub applies-by : (signs : ℕ → Bool) (q : Question) (t : RestrictionType) (kp kn : ℕ) (d x p n n′ y r : Bool)
-    → r ≡ (x && y) → y ≡ (p && n′) → n′ ≡ not n → x ≡ (eqb (t .object) (q .object) && d) → n ≡ signs kn
-    → kn ≡ typeKey (t .number) negative → p ≡ signs kp → kp ≡ typeKey (t .number) positive
-    → d ≡ covers (t .first) (t .last) (q .day) → r ≡ typeApplies q signs t
+-- k is whether the type is passed over
+pub applies-by : (over : RestrictionType → Bool) (signs : ℕ → Bool) (q : Question) (t : RestrictionType) (kp kn : ℕ)
+    (d x p n n′ k k′ a y r : Bool) → r ≡ (x && y) → y ≡ (a && k′) → k′ ≡ not k → k ≡ over t → a ≡ (p && n′)
+    → n′ ≡ not n → x ≡ (eqb (t .object) (q .object) && d) → n ≡ signs kn → kn ≡ typeKey (t .number) negative
+    → p ≡ signs kp → kp ≡ typeKey (t .number) positive → d ≡ covers (t .first) (t .last) (q .day)
+    → r ≡ typeApplies q over signs t
 unfolding typeApplies
-applies-by signs q t kp kn d x p n n′ y r er ey en′ ex en ekn ep ekp ed = rw (er, ey, en′, ex, en, ekn, ep, ekp, ed)
+applies-by over signs q t kp kn d x p n n′ k k′ a y r er ey ek′ ek ea en′ ex en ekn ep ekp ed =
+    rw (er, ey, ek′, ek, ea, en′, ex, en, ekn, ep, ekp, ed)
+
+pub passed-by : (s : Scope) (passed : ℕ → Bool) (t : RestrictionType) (k : ℕ) (m v h y r : Bool) → r ≡ (m || y)
+    → y ≡ (v || h) → m ≡ passed k → k ≡ t .number → h ≡ (s .holding && eqb (t .processing) partyHold)
+    → v ≡ (s .validating && eqb (t .processing) validationHold) → r ≡ typePassed s passed t
+unfolding typePassed
+passed-by s passed t k m v h y r er ey em ek eh ev = rw (er, ey, em, ek, eh, ev)
+
+pub exempted-by : (signs : ℕ → Bool) (q : Question) (t : RestrictionType) (k : ℕ) (d n x r : Bool) → r ≡ (x && n)
+    → x ≡ (eqb (t .object) (q .object) && d) → n ≡ signs k → k ≡ typeKey (t .number) negative
+    → d ≡ covers (t .first) (t .last) (q .day) → r ≡ typeExempted q signs t
+unfolding typeExempted
+exempted-by signs q t k d n x r er ex en ek ed = rw (er, ex, en, ek, ed)
 
 -- the deciding rule of a type, by a table of marks
 pub deciding-by : (marks rules : ℕ → Bool) (f : ℕ) → f ≡ firstRule marks → marks ≡ rules → f ≡ firstRule rules

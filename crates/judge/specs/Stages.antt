@@ -4,7 +4,7 @@
 -- Assumes nothing.
 use Prim.Native.Nat.{ℕ, _+_, _*_, _<_, _≤_}
 use mathlib.Core.Path.{_≡_}
-use mathlib.Core.Bool.{Bool, _&&_, _||_, not, cond}
+use mathlib.Core.Bool.{Bool, false, _&&_, _||_, not, cond}
 use mathlib.Core.List.{List}
 use lib.Dec.{eqb}
 use lib.ListN.{length, getD, replicate}
@@ -54,6 +54,10 @@ processings = 4
 abbrev pub sequences : ℕ
 sequences = 100
 
+-- type numbers are 1 to 99
+abbrev pub typeNumbers : ℕ
+typeNumbers = 100
+
 -- ---- 3. the signs of which a rule of a type matches
 
 unfoldable pub ruleMatches : Question → (ℕ → Bool) → Rule → Bool
@@ -71,20 +75,36 @@ signsMatched b q rows =
 
 -- ---- 4. the lowest type of each processing
 
--- a current type, of which a positive rule matches and no negative one does
-unfoldable pub typeApplies : Question → (ℕ → Bool) → RestrictionType → Bool
-typeApplies q signs t =
+-- a current type that is not passed over, of which a positive rule matches and no negative one does
+unfoldable pub typeApplies : Question → (RestrictionType → Bool) → (ℕ → Bool) → RestrictionType → Bool
+typeApplies q over signs t =
     (eqb (t .object) (q .object) && covers (t .first) (t .last) (q .day))
-    && (signs (typeKey (t .number) positive) && not (signs (typeKey (t .number) negative)))
+    && ((signs (typeKey (t .number) positive) && not (signs (typeKey (t .number) negative))) && not (over t))
 
 -- the lowest type of each processing, after the type at place i
-abbrev pub nameType : List ℕ → Question → (ℕ → Bool) → ℕ → List ℕ → List ℕ
-nameType b q signs i n =
-    afterPlace (λ t. t .csd) (q .csd) (λ t. t .processing) (typeApplies q signs) (λ t m. lesser (t .number) m) (typeAt b i) n
+abbrev pub nameType : List ℕ → Question → (RestrictionType → Bool) → (ℕ → Bool) → ℕ → List ℕ → List ℕ
+nameType b q over signs i n =
+    afterPlace (λ t. t .csd) (q .csd) (λ t. t .processing) (typeApplies q over signs) (λ t m. lesser (t .number) m) (typeAt b i) n
 
-unfoldable pub typesNamed : List ℕ → Question → (ℕ → Bool) → ℕ → ℕ
-typesNamed b q signs =
-    leasts (λ t. t .csd) (q .csd) (typeAt b) (λ t. t .processing) (typeApplies q signs) (λ t. t .number) processings typePlaces
+unfoldable pub typesNamed : List ℕ → Question → (RestrictionType → Bool) → (ℕ → Bool) → ℕ → ℕ
+typesNamed b q over signs =
+    leasts (λ t. t .csd) (q .csd) (typeAt b) (λ t. t .processing) (typeApplies q over signs) (λ t. t .number) processings typePlaces
+
+-- ---- the types exempted
+
+-- a current type, of which a negative rule matches
+unfoldable pub typeExempted : Question → (ℕ → Bool) → RestrictionType → Bool
+typeExempted q signs t =
+    (eqb (t .object) (q .object) && covers (t .first) (t .last) (q .day)) && signs (typeKey (t .number) negative)
+
+-- the table of types exempted, by number, after the type at place i
+abbrev pub markExempted : List ℕ → Question → (ℕ → Bool) → ℕ → List ℕ → List ℕ
+markExempted b q signs i n =
+    afterPlace (λ t. t .csd) (q .csd) (λ t. t .number) (typeExempted q signs) (λ t m. 1) (typeAt b i) n
+
+unfoldable pub typesExempted : List ℕ → Question → (ℕ → Bool) → ℕ → Bool
+typesExempted b q signs =
+    keys (λ t. t .csd) (q .csd) (typeAt b) (λ t. t .number) (typeExempted q signs) typeNumbers typePlaces
 
 -- ---- 5. the rules of a type that is named, looked through in rising sequence
 
@@ -139,14 +159,15 @@ verdict rules named = record {
   party = decided rules (cond (eqb (named rejection) 0) (named partyHold) 0);
 }
 
--- the rules of each type that match the question, by the book's bytes
-abbrev pub rulesOn : List ℕ → Question → ℕ → ℕ → Bool
-rulesOn b q = rulesMatched b q (rowsMatched b q (codesBorne b q))
+-- by the types that are passed over, and the rules that count and of which a row matches
+unfoldable pub verdictBy : List ℕ → Question → (RestrictionType → Bool) → (ℕ → Bool) → Verdict
+verdictBy b q over rows = verdict (rulesMatched b q rows) (typesNamed b q over (signsMatched b q rows))
 
--- the signs of each type of which a rule matches, by the book's bytes
-abbrev pub signsOn : List ℕ → Question → ℕ → Bool
-signsOn b q = signsMatched b q (rowsMatched b q (codesBorne b q))
+-- the rules of which a row matches, by the book's bytes
+abbrev pub rowsOn : List ℕ → Question → ℕ → Bool
+rowsOn b q = rowsMatched b q (codesBorne b q)
 
--- the verdict, by the book's bytes
+-- the verdict, by the book's bytes: no type is passed over, and every rule counts
 unfoldable pub judgedBy : List ℕ → Question → Verdict
-judgedBy b q = verdict (rulesOn b q) (typesNamed b q (signsOn b q))
+unfolding verdictBy
+judgedBy b q = verdictBy b q (λ t. false) (rowsOn b q)

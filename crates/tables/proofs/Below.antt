@@ -1,14 +1,14 @@
 -- Laws of the folds over places: one place more, folds over a lone list, and numbers looked through in rising order.
 use Prim.Native.Nat.{ℕ, zero, suc, _+_, _≤_, _<_}
 use mathlib.Core.Path.{_≡_, refl, ap, ap₂, _∙_, sym}
-use mathlib.Core.Bool.{Bool, true, false, _&&_, _||_, cond}
+use mathlib.Core.Bool.{Bool, true, false, _&&_, _||_, cond, and-false, or-false}
 use native.Mathlib.Numerals.{add-one}
 use native.Mathlib.Omega.{arith}
 use lib.Dec.{eqb, ltb}
 use borrow.Author.Tests.{eq-eqb, ne-eqb, lt-ltb}
-use Rattle.tables.specs.Count.{lesser, countBelow, has, least, lone}
+use Rattle.tables.specs.Count.{bit, lesser, countBelow, has, least, lone}
 use Rattle.tables.specs.Below.{anyBelow, leastBelow}
-use Rattle.tables.proofs.Counts.{cases, cases-eq}
+use Rattle.tables.proofs.Counts.{cases, cases-eq, bit-none, count-some}
 use Rattle.tables.proofs.Lone.{count-lone}
 
 pub any-same : (p q : ℕ → Bool) (n : ℕ) → ((i : ℕ) → i < n → p i ≡ q i) → anyBelow p n ≡ anyBelow q n
@@ -20,6 +20,37 @@ pub any-never : (p : ℕ → Bool) (n : ℕ) → ((i : ℕ) → i < n → p i �
 unfolding anyBelow
 any-never p zero h = refl
 any-never p (suc n) h = rw (h n (omega arith), any-never p n (λ i l. h i (omega arith)))
+
+-- q counts only where e holds.
+pub any-either : (p q : ℕ → Bool) (e : Bool) (n : ℕ)
+    → anyBelow (λ i. p i || (q i && e)) n ≡ (anyBelow p n || (anyBelow q n && e))
+unfolding anyBelow
+any-either p q e zero = refl
+any-either p q e (suc n) = rw (any-either p q e n) (parted (p n) (q n) (anyBelow p n) (anyBelow q n) e)
+  where
+    parted : (a b c d e : Bool) → ((a || (b && e)) || (c || (d && e))) ≡ ((a || c) || ((b || d) && e))
+    parted true b c d e = refl
+    parted false true true d true = refl
+    parted false true true d false = refl
+    parted false true false d true = refl
+    parted false true false d false = rw (and-false d)
+    parted false false c d e = refl
+
+-- Where p holds at one place below n only, that place tells whether one passes a further test.
+pub any-one : (p x : ℕ → Bool) (n i : ℕ) → countBelow p n ≤ 1 → i < n → p i ≡ true → anyBelow (λ j. p j && x j) n ≡ x i
+unfolding anyBelow countBelow
+any-one p x zero i h l e = absurd (omega arith)
+any-one p x (suc n) i h l e =
+    cases-eq i n
+    (λ s. rw (ap p (sym s) ∙ e, ap x (sym s), any-never (λ j. p j && x j) n (others s)) (or-false (x i)))
+    (λ s. rw (other s) (any-one p x n i (omega arith) (omega arith) e))
+  where
+    others : i ≡ n → (j : ℕ) → j < n → (p j && x j) ≡ false
+    others s j b =
+        cases (p j) (λ f. absurd (omega (arith, count-some p n j b f, ap bit (ap p (sym s) ∙ e)))) (λ f. rw f)
+
+    other : (i ≡ n → ⊥) → p n ≡ false
+    other s = bit-none (p n) (omega (arith, count-some p n i (omega arith) e))
 
 any-count : (p : ℕ → Bool) (n : ℕ) → ltb 0 (countBelow p n) ≡ anyBelow p n
 unfolding anyBelow countBelow

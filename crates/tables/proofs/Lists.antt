@@ -152,6 +152,22 @@ module _ {R : Type 0} where
   count-kept p q [] = omega arith
   count-kept p q (x ∷ l) = cases (q x) (λ t. rw t (omega (arith, count-kept p q l))) (λ t. rw t (omega (arith, count-kept p q l)))
 
+  -- ---- a list of which some are kept
+
+  pub has-among : (p q : R → Bool) (l : List R) → has p (keep q l) ≡ has (λ x. q x && p x) l
+  unfolding has
+  has-among p q l = ap (ltb 0) (count-keep p q l)
+
+  pub least-among : (f : R → ℕ) (p q : R → Bool) (l : List R) → least f p (keep q l) ≡ least f (λ x. q x && p x) l
+  unfolding least keep
+  least-among f p q [] = refl
+  least-among f p q (x ∷ l) = cases (q x) (λ e. rw (e, least-among f p q l)) (λ e. rw (e, least-among f p q l))
+
+  pub keep-any : (l : List R) → keep (λ x. true) l ≡ l
+  unfolding keep
+  keep-any [] = refl
+  keep-any (x ∷ l) = ap (λ m. x ∷ m) (keep-any l)
+
   pub every-any : (l : List R) → every (λ x. true) l ≡ true
   unfolding every
   every-any [] = refl

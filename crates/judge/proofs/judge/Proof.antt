@@ -13,6 +13,9 @@ judge-spec =
     (λ c κs. search needs)
     (λ c. search needs)
     (λ c κs. search needs)
+    (λ c κs. search needs)
+    (λ c κs. search needs)
+    (λ c. search needs)
     (λ c. search needs)
     (λ c κs. search needs)
     (λ c. search needs)
@@ -20,11 +23,14 @@ judge-spec =
     (λ c κs. search needs)
     (λ c.
     let types = c .before .before .before in
-    let signs = types .before .before in
+    let scope = types .before .before .before in
+    let signs = scope .before .before in
     let rows = signs .before .before .before in
-    by-stages _ _ _ _ _ _ _
+    by-stages _ _ _ _ (scope .before .none-passed .result) _ _ _ _
     (c .verdict .ensures)
     (types .types-named .ensures)
+    (scope .whole .ensures)
+    (scope .before .none-passed .ensures)
     (signs .signs-matched .ensures)
     (rows .mark-rules .ensures)
     (rows .before .before .row-space .ensures)))

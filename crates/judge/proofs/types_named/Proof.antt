@@ -9,16 +9,17 @@ use Rattle.owners.specs.Next.{nextType}
 use Rattle.owners.proofs.NextPassing.{next-within}
 use Rattle.places.specs.Layout.{typePlaces, typeAt}
 use Rattle.judge.specs.Stages.{processings, typeApplies, typesNamed}
+use Rattle.judge.specs.Within.{typePassed}
 use Rattle.owners.proofs.NextPassing.{pass-more, pass-end}
 use borrow.Author.Needs.{needs}
 use Rattle.judge.proofs.types_named.Statement.{statement}
 use Rattle.judge.proofs.types_named.Tie as tie
 
 abbrev Inv-loop : tie.InvT-loop
-Inv-loop b q signs t₀ i₀ t i = (i ≤ typePlaces) × Keyed processings (λ r. r .csd) (q .csd) (typeAt b) (λ t. t .processing) (typeApplies q (marked signs)) (λ t m. lesser (t .number) m) t i
+Inv-loop b q s passed signs t₀ i₀ t i = (i ≤ typePlaces) × Keyed processings (λ r. r .csd) (q .csd) (typeAt b) (λ t. t .processing) (typeApplies q (typePassed s (marked passed)) (marked signs)) (λ t m. lesser (t .number) m) t i
 
 abbrev μ-loop : tie.MeasureT-loop
-μ-loop b q signs t₀ i₀ t i = typePlaces - i
+μ-loop b q s passed signs t₀ i₀ t i = typePlaces - i
 
 pub types-named-spec : {M : Type 1} → statement M
 unfolding typesNamed nextType

@@ -1,0 +1,2 @@
+pub mod NewReturns
+pub mod NewRight

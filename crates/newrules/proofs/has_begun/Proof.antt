@@ -1,0 +1,12 @@
+-- `newrules::has_begun` meets its contract. Assumes nothing.
+use borrow.Author.Needs.{needs}
+use Rattle.newrules.proofs.NewReturns.{begun-by}
+use Rattle.newrules.proofs.has_begun.Statement.{statement}
+use Rattle.newrules.proofs.has_begun.Tie as tie
+
+pub has-begun-spec : {M : Type 1} → statement M
+has-begun-spec =
+    tie.close
+    (tie.spec
+    (λ c κs. search needs)
+    (λ c. search begun-by))
