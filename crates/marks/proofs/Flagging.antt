@@ -20,7 +20,7 @@ marked-by t k x e = ap (λ y. eqb y 1) e
 
 -- ---- one entry
 
-flag-none : (j : ℕ) → flag j 0 ≡ false
+pub flag-none : (j : ℕ) → flag j 0 ≡ false
 unfolding flag
 flag-none zero = refl
 flag-none (suc j) = flag-none j
