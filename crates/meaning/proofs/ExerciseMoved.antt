@@ -32,7 +32,7 @@ use Rattle.meaning.specs.Exercise.{
 }
 use Rattle.meaning.proofs.Keys.{rule-key, is-rule}
 use Rattle.meaning.proofs.Listed.{not-so, has-map}
-use Rattle.meaning.proofs.Order.{judged-same}
+use Rattle.meaning.proofs.OrderJudged.{judged-same}
 use Rattle.meaning.proofs.KeptOrder.{no-rows}
 use Rattle.meaning.proofs.ExerciseJudged.{named-after, deciding-after}
 use Rattle.meaning.proofs.ExerciseOutIn.{same-rule, onlyIt, only-it, it-is}

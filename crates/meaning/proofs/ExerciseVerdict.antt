@@ -11,7 +11,7 @@ use Rattle.meaning.specs.Records.{Book, Question, rejection, validationH
 use Rattle.meaning.specs.Judging.{by, ruleApplies, named, deciding, decided, verdict, judged}
 use Rattle.meaning.specs.Exercise.{sequenced, resequenced, SameTypes, isDeciding, namesRule}
 use Rattle.meaning.specs.declared.Verdict.{Verdict}
-use Rattle.meaning.proofs.Order.{applies-alike}
+use Rattle.meaning.proofs.OrderJudged.{applies-alike}
 
 -- ---- what is judged
 

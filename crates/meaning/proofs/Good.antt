@@ -21,7 +21,7 @@ use Rattle.meaning.proofs.Keys.{typeKey, typeAsk, type-hit, type-self, 
 -- ---- the four kinds of records
 
 -- alike are those of one key: ask κ tests for the key κ
-abbrev keyed : {R K : Type 0} → ℕ → (R → Bool) → (ask : K → R → Bool) (key : R → K)
+abbrev pub keyed : {R K : Type 0} → ℕ → (R → Bool) → (ask : K → R → Bool) (key : R → K)
     → ((κ : K) (x : R) → ask κ x ≡ true → κ ≡ key x) → ((x : R) → ask (key x) x ≡ true) → Kind R
 keyed quota fits ask key hit self = record {
   quota = quota;

@@ -52,7 +52,7 @@ unfolding verdict decided
 no-validation b q zero h = refl
 no-validation b q (suc n) h = refl
 
-no-party : (b : Book) (q : Question) (n h : ℕ) → verdict b q n h 0 .party ≡ nobody
+pub no-party : (b : Book) (q : Question) (n h : ℕ) → verdict b q n h 0 .party ≡ nobody
 unfolding verdict decided
 no-party b q zero h = refl
 no-party b q (suc n) h = refl

@@ -5,8 +5,8 @@ use mathlib.Core.Bool.{Bool, true, _&&_}
 use lib.Dec.{eqb, leb}
 use borrow.Author.Tests.{eqb-true, eq-eqb}
 use Rattle.tables.proofs.Counts.{ands}
-use Rattle.meaning.specs.Records.{TypeRecord, Rule, Row, Period}
-use Rattle.meaning.specs.Keys.{isType, isRule, ofRule, isRow, isPeriod, clash}
+use Rattle.meaning.specs.Records.{TypeRecord, Rule, Row, Period, Kept}
+use Rattle.meaning.specs.Keys.{isType, isRule, ofRule, isRow, isPeriod, isKept, clash}
 use Rattle.meaning.specs.Sound.{fillsRule}
 use Rattle.meaning.proofs.SameLists.{same-self, same-numbers}
 
@@ -28,6 +28,16 @@ type-hit κ t e =
 pub type-self : (t : TypeRecord) → typeAsk (typeKey t) t ≡ true
 unfolding isType
 type-self t = rw (eq-eqb (t .type) (t .type) refl, eq-eqb (t .object) (t .object) refl)
+
+-- ---- kept instructions
+
+pub kept-hit : (reference : ℕ) (k : Kept) → isKept reference k ≡ true → reference ≡ k .reference
+unfolding isKept
+kept-hit reference k e = sym (eqb-true (k .reference) reference e)
+
+pub kept-self : (k : Kept) → isKept (k .reference) k ≡ true
+unfolding isKept
+kept-self k = eq-eqb (k .reference) (k .reference) refl
 
 -- ---- rules and the rows of a rule, which are known by the same three numbers
 

@@ -3,11 +3,15 @@ pub mod Lesson
 pub mod Marked
 pub mod Edges
 pub mod BatchEdges
+pub mod OrderJudged
+pub mod OrderPending
 pub mod Order
 pub mod Shapes
 pub mod Ranges
 pub mod First
 pub mod SameLists
+pub mod Remembered
+pub mod Keeping
 pub mod Listed
 pub mod Keys
 pub mod Good
@@ -16,6 +20,7 @@ pub mod KeptTypes
 pub mod KeptRules
 pub mod KeptOrder
 pub mod KeptPeriods
+pub mod KeptPending
 pub mod Kept
 pub mod Names
 pub mod HowSent
@@ -35,5 +40,3 @@ pub mod HoldExamples
 pub mod Within
 pub mod WithinLines
 pub mod WithinJudged
-pub mod Remembered
-pub mod Keeping

@@ -4,13 +4,14 @@ use Prim.Native.Nat.{ℕ, _≤_, _<_}
 use mathlib.Core.Path.{_≡_, refl, ap, sym, _∙_}
 use mathlib.Core.Bool.{Bool, true, false, cond, not, _&&_, or-true, false≢true}
 use mathlib.Core.List.{List, _∷_}
+use mathlib.Core.Option.{Option, some}
 use native.Mathlib.Omega.{arith}
 use lib.Dec.{leb}
 use lib.ListN.{length}
 use borrow.Author.Tests.{leb-true, le-leb, not-true}
-use Rattle.tables.specs.Count.{count, has, every, keep, alter, without, change, Same}
+use Rattle.tables.specs.Count.{count, has, every, keep, alter, without, change, sift, Same}
 use Rattle.tables.proofs.Counts.{cases, both, bit-most, count-cons, count-keep, count-alter}
-use Rattle.tables.proofs.Lists.{has-cons, has-true, has-false, true-has, count-no, every-both, every-map, every-alter, every-keep, every-none, every-any, count-under, count-kept, length-keep, length-alter, same-length, same-has, same-every}
+use Rattle.tables.proofs.Lists.{has-cons, has-true, has-false, true-has, count-no, every-both, every-map, every-alter, every-keep, every-none, every-any, count-under, count-kept, length-keep, length-alter, leftBy, everyLeft, every-left, left-some, count-sift, every-sift, length-sift, same-length, same-has, same-every}
 
 -- What would follow is not so.
 pub not-so : (a b : Bool) → b ≡ false → (a ≡ true → b ≡ true) → a ≡ false
@@ -143,6 +144,34 @@ module _ {R : Type 0} {k : Kind R} {l : List R} (g : Listed k l) where
             (every-map _ _ l (g .once)
             (λ x. at-most (count (k .alike x) (keep r l)) (count (k .alike x) l) (count-kept (k .alike x) r l)));
       }
+
+  -- where what g leaves of a record is in its range and like no record that the record was not like
+  module _ (g′ : R → Option R)
+      (fit : (x y : R) → k .fits x ≡ true → g′ x ≡ some y → k .fits y ≡ true)
+      (one : (x y z w : R) → g′ x ≡ some y → g′ z ≡ some w → k .alike y w ≡ true → k .alike x z ≡ true) where
+    fit-left : (x : R) → k .fits x ≡ true → everyLeft (k .fits) (g′ x) ≡ true
+    fit-left x f = every-left (k .fits) (g′ x) (λ y e. fit x y f e)
+
+    once-left : (x : R) → leb (count (k .alike x) l) 1 ≡ true
+        → everyLeft (λ y. leb (count (k .alike y) (sift g′ l)) 1) (g′ x) ≡ true
+    once-left x o =
+        every-left (λ y. leb (count (k .alike y) (sift g′ l)) 1) (g′ x)
+        (λ y e.
+        at-most (count (k .alike y) (sift g′ l)) (count (k .alike x) l)
+        (omega (
+          arith,
+          count-sift (k .alike y) g′ l,
+          count-less (λ z. leftBy (k .alike y) (g′ z)) (k .alike x) l
+              (λ z h. left-some (k .alike y) (g′ z) h (λ w f a. one x y z w e f a)),
+        ))
+        o)
+
+    pub listed-sifted : Listed k (sift g′ l)
+    listed-sifted = record {
+      few = omega (arith, g .few, length-sift g′ l);
+      fit = every-sift (k .fits) g′ l ∙ every-map (k .fits) _ l (g .fit) fit-left;
+      once = every-sift _ g′ l ∙ every-map _ _ l (g .once) once-left;
+    }
 
   pub listed-same : (m : List R) → Same l m → Listed k m
   listed-same m s = record {

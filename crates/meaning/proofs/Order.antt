@@ -16,62 +16,38 @@ use Rattle.meaning.specs.Edits.{typeUntil, ruleMoved, rowMoved, periodUn
 use Rattle.meaning.specs.Judging.{covers, meetsAll, hasCode, tests, matches, ruleApplies, applies, named, deciding, decided, verdict, judged}
 use Rattle.meaning.specs.Lone.{Step, elsewhere, replied, reply, unless, takenSent, afterReading, stepSent, step, answersSent, told, answersFrom}
 use Rattle.meaning.specs.SameBook.{SameBook}
+use Rattle.meaning.proofs.OrderJudged.{types-has, rules-has, rows-has, periods-has, judged-same}
 use Rattle.meaning.specs.declared.Wishes.{Wishes}
 use Rattle.meaning.specs.Status.{answerTo}
 use Rattle.meaning.specs.declared.Sent.{Sent}
 use Rattle.meaning.specs.declared.Sent.the-variants.{Alone}
 
--- where a rule of each type and sign applies in both books or in neither, the same types apply
-pub applies-alike : (b c : Book) (q : Question)
-    → ((type sign : ℕ) → has (ruleApplies b q type sign) (b .rules) ≡ has (ruleApplies c q type sign) (c .rules))
-    → (processing : ℕ) → applies b q processing ≡ applies c q processing
-unfolding applies
-applies-alike b c q alike processing =
-    fun-ext (λ t.
-    ap₂
-    (λ spoken exempt.
-    eqb (t .object) (q .object) && eqb (t .processing) processing && covers (t .first) (t .last) (q .day) && spoken && not exempt)
-    (alike (t .type) positive) (alike (t .type) negative))
-
 module _ (b c : Book) (s : SameBook b c) where
-  -- what is asked of each list
-  types-has : (p : TypeRecord → Bool) → has p (b .types) ≡ has p (c .types)
-  types-has p = same-has p (b .types) (c .types) (s .types)
-
-  rules-has : (p : Rule → Bool) → has p (b .rules) ≡ has p (c .rules)
-  rules-has p = same-has p (b .rules) (c .rules) (s .rules)
-
-  rows-has : (p : Row → Bool) → has p (b .rows) ≡ has p (c .rows)
-  rows-has p = same-has p (b .rows) (c .rows) (s .rows)
-
-  periods-has : (p : Period → Bool) → has p (b .periods) ≡ has p (c .periods)
-  periods-has p = same-has p (b .periods) (c .periods) (s .periods)
-
   conditions-same : (k : Command) → conditions b k ≡ conditions c k
   unfolding conditions
   conditions-same (addType day t) =
-      rw (types-has (isType (t .type) (t .object)), same-length (b .types) (c .types) (s .types))
-  conditions-same (endType day type object last) = rw (types-has (isType type object), types-has (typeOutside type object last))
+      rw (types-has b c s (isType (t .type) (t .object)), same-length (b .types) (c .types) (s .types))
+  conditions-same (endType day type object last) = rw (types-has b c s (isType type object), types-has b c s (typeOutside type object last))
   conditions-same (addRule day r) =
       rw (
-        types-has (isType (r .type) (r .object)),
-        rules-has (isRule (r .type) (r .object) (r .sequence)),
-        types-has (leaves r),
+        types-has b c s (isType (r .type) (r .object)),
+        rules-has b c s (isRule (r .type) (r .object) (r .sequence)),
+        types-has b c s (leaves r),
         same-length (b .rules) (c .rules) (s .rules),
       )
-  conditions-same (reorder type object sequence new) = rw (rules-has (isRule type object sequence), rules-has (isRule type object new))
-  conditions-same (deleteRule type object sequence) = rw (rules-has (isRule type object sequence), rows-has (ofRule type object sequence))
+  conditions-same (reorder type object sequence new) = rw (rules-has b c s (isRule type object sequence), rules-has b c s (isRule type object new))
+  conditions-same (deleteRule type object sequence) = rw (rules-has b c s (isRule type object sequence), rows-has b c s (ofRule type object sequence))
   conditions-same (addRow w) =
       rw (
-        rules-has (isRule (w .type) (w .object) (w .sequence)),
-        rules-has (otherCriteria w),
-        rows-has (isRow w),
+        rules-has b c s (isRule (w .type) (w .object) (w .sequence)),
+        rules-has b c s (otherCriteria w),
+        rows-has b c s (isRow w),
         same-length (b .rows) (c .rows) (s .rows),
       )
-  conditions-same (deleteRow w) = rw (rows-has (isRow w))
-  conditions-same (addPeriod day p) = rw (periods-has (clash p), same-length (b .periods) (c .periods) (s .periods))
+  conditions-same (deleteRow w) = rw (rows-has b c s (isRow w))
+  conditions-same (addPeriod day p) = rw (periods-has b c s (clash p), same-length (b .periods) (c .periods) (s .periods))
   conditions-same (endPeriod day kind number code first last) =
-      rw (periods-has (isPeriod kind number code first), periods-has (periodOutside kind number code first last))
+      rw (periods-has b c s (isPeriod kind number code first), periods-has b c s (periodOutside kind number code first last))
   conditions-same (ask q w) = refl
 
   pub refusal-same : (k : Command) → refusal b k ≡ refusal c k
@@ -99,69 +75,10 @@ module _ (b c : Book) (s : SameBook b c) where
       search (same-change (isPeriod kind number code first) (periodUntil last) (b .periods) (c .periods) (s .periods))
   edited-same (ask q w) = s
 
-  -- ---- judging
-
-  module _ (q : Question) where
-    hasCode-same : (kind number : ℕ) → hasCode b q kind number ≡ hasCode c q kind number
-    unfolding hasCode
-    hasCode-same kind number = fun-ext (λ code. periods-has _)
-
-    tests-same : tests b q ≡ tests c q
-    unfolding tests
-    tests-same = rw (hasCode-same party (q .party), hasCode-same account (q .account), hasCode-same security (q .security))
-
-    matches-same : (r : Rule) → matches b q r ≡ matches c q r
-    unfolding matches
-    matches-same r =
-        rows-has _
-        ∙ ap (λ ts. has (λ w. ofRule (r .type) (r .object) (r .sequence) w && meetsAll ts (w .values)) (c .rows)) tests-same
-
-    ruleApplies-same : (type sign : ℕ) → ruleApplies b q type sign ≡ ruleApplies c q type sign
-    unfolding ruleApplies
-    ruleApplies-same type sign =
-        fun-ext (λ r.
-        ap
-        (λ m. eqb (r .type) type && eqb (r .object) (q .object) && eqb (r .sign) sign && covers (r .first) (r .last) (q .day) && m)
-        (matches-same r))
-
-    some-ruleApplies-same : (type sign : ℕ) → has (ruleApplies b q type sign) (b .rules) ≡ has (ruleApplies c q type sign) (c .rules)
-    some-ruleApplies-same type sign = rules-has _ ∙ ap (λ p. has p (c .rules)) (ruleApplies-same type sign)
-
-    applies-same : (processing : ℕ) → applies b q processing ≡ applies c q processing
-    applies-same = applies-alike b c q some-ruleApplies-same
-
-    named-same : (processing : ℕ) → named b q processing ≡ named c q processing
-    unfolding named
-    named-same processing =
-        same-least (λ t. t .type) (applies b q processing) (b .types) (c .types) (s .types)
-        ∙ ap (λ p. least (λ t. t .type) p (c .types)) (applies-same processing)
-
-    deciding-same : (type : ℕ) → deciding b q type ≡ deciding c q type
-    unfolding deciding
-    deciding-same type =
-        same-least (λ r. r .sequence) (ruleApplies b q type positive) (b .rules) (c .rules) (s .rules)
-        ∙ ap (λ p. least (λ r. r .sequence) p (c .rules)) (ruleApplies-same type positive)
-
-    decided-same : (type : ℕ) → decided b q type ≡ decided c q type
-    unfolding decided
-    decided-same zero = refl
-    decided-same (suc type) = rw (deciding-same (suc type))
-
-    verdict-same : (type validating holding : ℕ) → verdict b q type validating holding ≡ verdict c q type validating holding
-    unfolding verdict
-    verdict-same zero validating holding = rw (decided-same validating, decided-same holding)
-    verdict-same (suc type) validating holding = rw (decided-same (suc type))
-
-    pub judged-same : judged b q ≡ judged c q
-    unfolding judged
-    judged-same =
-        verdict-same (named b q rejection) (named b q validationHold) (named b q partyHold)
-        ∙ rw (named-same rejection, named-same validationHold, named-same partyHold)
-
   replied-same : (q : Option (Question × Wishes)) → replied b q ≡ replied c q
   unfolding replied
   replied-same none = refl
-  replied-same (some (q, w)) = ap (λ v. answerTo v w) (judged-same q)
+  replied-same (some (q, w)) = ap (λ v. answerTo v w) (judged-same b c s q)
 
   reply-same : (k : Command) → reply b k ≡ reply c k
   unfolding reply

@@ -44,6 +44,11 @@ keep-agree p q (m ∷ l) h =
     or-right true = refl
     or-right false = refl
 
+-- no number is one of types
+pub no-types : areTypes [] ≡ true
+unfolding areTypes typesWhich typeNumbers among
+no-types = refl
+
 -- what a test leaves of the type numbers is a list of types
 pub which-types : (p : ℕ → Bool) → areTypes (typesWhich p) ≡ true
 unfolding areTypes typesWhich

@@ -1,6 +1,7 @@
--- The forms of a field, and the table of letters (document 01, 'Lines'; document 02, request b). Assumes nothing.
+-- The forms of a field, and the table of letters (document 01, 'Lines'; document 02, request b;
+-- for request d the forms that its letters will have). Assumes nothing.
 use Prim.Native.Nat.{ℕ, zero, suc, _/_, _%_}
-use mathlib.Core.Bool.{Bool, true, false, cond, _&&_, _||_}
+use mathlib.Core.Bool.{Bool, true, false, not, cond, _&&_, _||_}
 use mathlib.Core.List.{List, [], _∷_, _++_}
 use mathlib.Core.Option.{Option, some, none}
 use lib.Dec.{leb, ltb, eqb}
@@ -145,6 +146,10 @@ currencyForm = letters 3
 abbrev pub wishForm : Form
 wishForm = oneOf (bytes "Y" ∷ bytes "N" ∷ [])
 
+-- of a kept instruction (document 02, request d)
+abbrev pub referenceForm : Form
+referenceForm = upTo 9999
+
 -- the ten values of a row: criteria 0 to 9
 abbrev pub tenValues : List Form
 tenValues =
@@ -223,12 +228,10 @@ shapeA = record { letter = letterA; forms = csdForm ∷ day ∷ kindForm ∷ num
 unfoldable pub shapeZ : Shape
 shapeZ = record { letter = letterZ; forms = csdForm ∷ day ∷ kindForm ∷ numberForm ∷ code ∷ day ∷ day ∷ [] }
 
--- what every question carries
-abbrev pub questionForms : List Form
-questionForms =
-    csdForm
-    ∷ day
-    ∷ objectForm
+-- the nine fields of a question or an instruction, from object to security
+abbrev pub nineForms : List Form
+nineForms =
+    objectForm
     ∷ partyTypeForm
     ∷ optional movementForm
     ∷ optional paymentForm
@@ -238,6 +241,15 @@ questionForms =
     ∷ numberForm
     ∷ numberForm
     ∷ []
+
+-- movement and payment are filled for object 1 and empty for object 2
+abbrev pub wronglyFilled : ℕ → ℕ → ℕ → Bool
+wronglyFilled object movement payment =
+    cond (eqb object 1) (eqb movement 0 || eqb payment 0) (not (eqb movement 0 && eqb payment 0))
+
+-- what every question carries
+abbrev pub questionForms : List Form
+questionForms = csdForm ∷ day ∷ nineForms
 
 unfoldable pub shapeQ : Shape
 shapeQ = record { letter = letterQ; forms = questionForms }

@@ -4,7 +4,7 @@ use mathlib.Core.Bool.{Bool, _&&_}
 use mathlib.Core.List.{List, [], _∷_}
 use lib.Dec.{leb, eqb}
 use Rattle.meaning.specs.Text.{same}
-use Rattle.meaning.specs.Records.{TypeRecord, Rule, Row, Period}
+use Rattle.meaning.specs.Records.{TypeRecord, Rule, Row, Period, Kept}
 
 -- a type is known by type and object
 unfoldable pub isType : ℕ → ℕ → TypeRecord → Bool
@@ -27,6 +27,10 @@ isRow a w = ofRule (a .type) (a .object) (a .sequence) w && same (a .values) (w 
 unfoldable pub isPeriod : ℕ → ℕ → ℕ → ℕ → Period → Bool
 isPeriod kind number code first p =
     eqb (p .first) first && eqb (p .code) code && eqb (p .number) number && eqb (p .kind) kind
+
+-- a kept instruction by its reference
+unfoldable pub isKept : ℕ → Kept → Bool
+isKept reference k = eqb (k .reference) reference
 
 -- two periods of one kind, number and attribute share a day
 unfoldable pub clash : Period → Period → Bool

@@ -9,6 +9,7 @@ use lib.Dec.{eqb}
 use Rattle.tables.specs.Count.{has, keep}
 use Rattle.meaning.specs.Text.{same}
 use Rattle.meaning.specs.Records.{TypeRecord, Kept, Book, Question, negative, validationHold, partyHold}
+use Rattle.meaning.specs.Keys.{isKept}
 use Rattle.meaning.specs.Judging.{covers, ruleApplies, judged}
 use Rattle.meaning.specs.Scope.{Scope, scoped, isNew, onlyNew}
 use Rattle.meaning.specs.Status.{isOn}
@@ -52,6 +53,11 @@ heldSince k processing =
 unfoldable pub isHeld : Kept → ℕ → Bool
 unfolding heldSince
 isHeld k processing = not (eqb (heldSince k processing) 0)
+
+-- the kept instruction of that reference, with that hold on
+unfoldable pub heldBy : ℕ → ℕ → Kept → Bool
+unfolding isKept isHeld
+heldBy reference hold k = isKept reference k && isHeld k hold
 
 -- ---- what it meets
 

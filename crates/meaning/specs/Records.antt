@@ -110,6 +110,10 @@ rowQuota = 128
 abbrev pub periodQuota : ℕ
 periodQuota = 128
 
+-- of kept instructions
+abbrev pub instructionQuota : ℕ
+instructionQuota = 32
+
 -- ---- what a line asks
 
 -- what a question is judged by: transaction, currency, movement and payment are 0 where empty

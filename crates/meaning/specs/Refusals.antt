@@ -7,6 +7,7 @@ use mathlib.Core.List.{List, [], _∷_}
 use lib.Dec.{leb, ltb, eqb}
 use lib.ListN.{length}
 use Rattle.tables.specs.Count.{has}
+use Rattle.meaning.specs.Forms.{wronglyFilled}
 use Rattle.meaning.specs.Records.{
   TypeRecord,
   Rule,
@@ -43,9 +44,7 @@ wrong (addRow w) = false
 wrong (deleteRow w) = false
 wrong (addPeriod day p) = ltb (p .last) (p .first)
 wrong (endPeriod day kind number code first last) = false
--- movement and payment are filled for object 1 and empty for object 2
-wrong (ask q w) =
-    cond (eqb (q .object) 1) (eqb (q .movement) 0 || eqb (q .payment) 0) (not (eqb (q .movement) 0 && eqb (q .payment) 0))
+wrong (ask q w) = wronglyFilled (q .object) (q .movement) (q .payment)
 
 -- the number of the first condition that holds; 0 where none does
 abbrev pub firstOf : List (ℕ × Bool) → ℕ

@@ -6,7 +6,6 @@ use lib.Dec.{leb, eqb}
 use Rattle.tables.specs.Count.{has, keep}
 use Rattle.meaning.specs.Records.{TypeRecord, Rule, Book}
 use Rattle.meaning.specs.Keys.{isType}
-use Rattle.meaning.specs.Edits.{withTypes, withRules}
 
 pub record Scope : Type 0 where
   pub types : TypeRecord → Bool
@@ -19,7 +18,12 @@ whole = record { types = λ t. true; rules = λ r. true }
 -- the lone book in which only the types and the rules of the scope are
 unfoldable pub scoped : Scope → Book → Book
 unfolding keep
-scoped s b = withTypes (keep (s .types) (b .types)) (withRules (keep (s .rules) (b .rules)) b)
+scoped s b = record {
+  types = keep (s .types) (b .types);
+  rules = keep (s .rules) (b .rules);
+  rows = b .rows;
+  periods = b .periods;
+}
 
 -- ---- the rules that are new on a day
 

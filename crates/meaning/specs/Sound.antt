@@ -2,6 +2,7 @@
 -- type, and every row its rule with that rule's criteria filled. Assumes nothing.
 use Prim.Native.Nat.{ℕ}
 use mathlib.Core.Bool.{Bool, not, _&&_}
+use mathlib.Core.List.{List, [], _∷_}
 use lib.Dec.{eqb, leb}
 use lib.ListN.{length}
 use Rattle.tables.specs.Count.{count, has, every}
@@ -19,12 +20,17 @@ use Rattle.meaning.specs.Forms.{
   kindForm,
   numberForm,
   tenValues,
+  nineForms,
+  referenceForm,
+  optional,
+  wronglyFilled,
 }
 use Rattle.meaning.specs.Records.{
   TypeRecord,
   Rule,
   Row,
   Period,
+  Kept,
   Book,
   typeQuota,
   ruleQuota,
@@ -32,6 +38,7 @@ use Rattle.meaning.specs.Records.{
   periodQuota,
 }
 use Rattle.meaning.specs.Keys.{isType, isRule, isRow, clash, filled}
+use Rattle.meaning.specs.Pending.{areTypes}
 
 -- ---- ranges
 
@@ -65,6 +72,21 @@ unfoldable pub periodFits : Period → Bool
 unfolding holds daysFit
 periodFits p =
     (holds kindForm (p .kind) && holds numberForm (p .number)) && (holds code (p .code) && daysFit (p .first) (p .last))
+
+-- the nine fields of a kept instruction, from object to security
+abbrev pub nineOf : Kept → List ℕ
+nineOf k =
+    k .object ∷ k .partyType ∷ k .movement ∷ k .payment ∷ k .transaction ∷ k .currency ∷ k .party ∷ k .account ∷ k .security ∷ []
+
+-- ranges as in S, movement and payment as the object asks; each hold's day is a day or none, a restriction has no party
+-- hold, and what is remembered are types (document 02, request d). No book holds one yet.
+unfoldable pub keptFits : Kept → Bool
+unfolding holds holdsAll areTypes
+keptFits k =
+    ((holds referenceForm (k .reference) && holdsAll nineForms (nineOf k))
+    && not (wronglyFilled (k .object) (k .movement) (k .payment)))
+    && ((holds (optional day) (k .validating) && holds (optional day) (k .holding))
+    && (not (eqb (k .object) 2 && not (eqb (k .holding) 0)) && areTypes (k .remembered)))
 
 -- ---- a record in its lone book
 

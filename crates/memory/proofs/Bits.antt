@@ -65,16 +65,16 @@ type-put m m′ n k x y on em ey ex ek = em ∙ rw (ey, ex, ek)
 
 -- ---- one number after the other
 
-pub types-none : (m marks : List ℕ) → m ≡ withTypesTo 0 m marks
+pub types-none : (m marks : List ℕ) → m ≡ withTypesTo 0 m (marked marks)
 unfolding withTypesTo
 types-none m marks = refl
 
 pub types-more : (m marks r r′ : List ℕ) (n : ℕ) (on : Bool) → r′ ≡ withType r (n + 1) on → on ≡ marked marks (n + 1)
-    → r ≡ withTypesTo n m marks → r′ ≡ withTypesTo (n + 1) m marks
+    → r ≡ withTypesTo n m (marked marks) → r′ ≡ withTypesTo (n + 1) m (marked marks)
 unfolding withTypesTo
 types-more m marks r r′ n on er eo e = er ∙ rw (eo, e, add-one)
 
-pub types-end : (m marks r : List ℕ) (n : ℕ) → r ≡ withTypesTo n m marks → n ≤ 99 → 99 ≤ n → r ≡ withTypes m marks
+pub types-end : (m marks r : List ℕ) (n : ℕ) → r ≡ withTypesTo n m (marked marks) → n ≤ 99 → 99 ≤ n → r ≡ withTypes m (marked marks)
 unfolding withTypes
 types-end m marks r n e l h = let s : n ≡ 99 = omega arith in rw s at e
 

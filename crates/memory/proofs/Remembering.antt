@@ -10,8 +10,9 @@ use lib.ListN.{length, getD, replicate, length-set, List·getD-eq-default}
 use lib.Seq.{getD-set-same, getD-set-other}
 use borrow.Author.Tests.{eq-eqb, ne-eqb, ltb-true, ltb-false, not-true}
 use Rattle.tables.specs.Keyed.{marked}
-use Rattle.tables.proofs.Counts.{cases, cases-eq, both}
-use Rattle.meaning.specs.Pending.{typesWhich, among}
+use Rattle.tables.proofs.Counts.{cases, cases-eq, both, agree}
+use Rattle.meaning.specs.Pending.{numbersFrom, typesWhich, among, areTypes}
+use Rattle.meaning.proofs.Remembered.{which-types, types-which}
 use Rattle.marks.specs.Flags.{withFlag}
 use Rattle.marks.proofs.Flagging.{flag-none, flag-with}
 use Rattle.memory.specs.Remembered.{bitOf, typesIn, spareClear, typeBits, withType, withTypesTo, withTypes}
@@ -36,7 +37,7 @@ among-any m n s =
     (λ e. among-past (bitOf m) 0 104 n (ltb-false n 104 e) ∙ sym (bit-past m n s (ltb-false n 104 e)))
 
 pub none-remembered : typesIn (replicate 13 0) ≡ []
-unfolding typesIn
+unfolding typesIn numbersFrom
 none-remembered = refl
 
 -- ---- no bit is on that is no type's
@@ -94,12 +95,19 @@ types-clear m e =
       behind = λ n l u. out n u (which-past (bitOf m) n l);
     })
 
+-- The meaning's test of the list, of 13 bytes.
+pub are-types : (m : List ℕ) → length m ≡ 13 → areTypes (typesIn m) ≡ spareClear m
+are-types m s =
+    agree (areTypes (typesIn m)) (spareClear m)
+    (λ e. types-clear m (sym (types-which (typesIn m) e) ∙ which-same (among (typesIn m)) (bitOf m) (λ n a b. among-any m n s)))
+    (λ e. ap areTypes (clear-types m e) ∙ which-types (bitOf m))
+
 -- Then no bit is on from 100 on.
 bit-spare : (m : List ℕ) (n : ℕ) → length m ≡ 13 → Spared m → 100 ≤ n → bitOf m n ≡ false
 bit-spare m n s h l =
     cases (ltb n 104) (λ e. h .behind n l (ltb-true n 104 e)) (λ e. bit-past m n s (ltb-false n 104 e))
 
--- ---- marks put in
+-- ---- types put in
 
 -- Numbers below 104 are equal exactly if byte and bit are.
 type-parts : (t n : ℕ) → t / 8 ≡ n / 8 → eqb (t % 8) (n % 8) ≡ eqb t n
@@ -119,63 +127,63 @@ bit-with m t n true s l =
     rw (e, getD-set-same m (n / 8) y 0 (omega (arith, s)), flag-with (t % 8) (n % 8) (getD m (n / 8) 0), type-parts t n e))
     (λ e. rw (getD-set-other m (n / 8) (t / 8) y 0 e, ne-eqb t n (λ z. e (ap (λ k. k / 8) z))))
 
-length-types : (n : ℕ) (m marks : List ℕ) → length (withTypesTo n m marks) ≡ length m
+length-types : (n : ℕ) (m : List ℕ) (on : ℕ → Bool) → length (withTypesTo n m on) ≡ length m
 unfolding withTypesTo withType
-length-types zero m marks = refl
-length-types (suc n) m marks =
-    cases (marked marks (suc n)) (λ e. rw (e, length-set) (length-types n m marks)) (λ e. rw e (length-types n m marks))
+length-types zero m on = refl
+length-types (suc n) m on =
+    cases (on (suc n)) (λ e. rw (e, length-set) (length-types n m on)) (λ e. rw e (length-types n m on))
 
--- A number that no mark is put in of.
-bit-apart : (m marks : List ℕ) (t n : ℕ) → length m ≡ 13 → n < 104 → ((k : ℕ) → 1 ≤ k → k ≤ n → t ≡ k → ⊥)
-    → bitOf (withTypesTo n m marks) t ≡ bitOf m t
+-- A number that none is put in of.
+bit-apart : (m : List ℕ) (on : ℕ → Bool) (t n : ℕ) → length m ≡ 13 → n < 104 → ((k : ℕ) → 1 ≤ k → k ≤ n → t ≡ k → ⊥)
+    → bitOf (withTypesTo n m on) t ≡ bitOf m t
 unfolding withTypesTo
-bit-apart m marks t zero s l d = refl
-bit-apart m marks t (suc n) s l d =
-    bit-with (withTypesTo n m marks) t (suc n) (marked marks (suc n)) (length-types n m marks ∙ s) l
+bit-apart m on t zero s l d = refl
+bit-apart m on t (suc n) s l d =
+    bit-with (withTypesTo n m on) t (suc n) (on (suc n)) (length-types n m on ∙ s) l
     ∙ rw (ne-eqb t (suc n) (d (suc n) (omega arith) (omega arith)), and-false)
-    (bit-apart m marks t n s (omega arith) (λ k a b. d k a (omega arith)))
+    (bit-apart m on t n s (omega arith) (λ k a b. d k a (omega arith)))
 
 or-swapped : (a b : Bool) → ((a && true) || b) ≡ (b || a)
 or-swapped true b = sym (or-true b)
 or-swapped false true = refl
 or-swapped false false = refl
 
-bit-put : (m marks : List ℕ) (t n : ℕ) → length m ≡ 13 → n < 104 → 1 ≤ t → t ≤ n
-    → bitOf (withTypesTo n m marks) t ≡ (bitOf m t || marked marks t)
+bit-put : (m : List ℕ) (on : ℕ → Bool) (t n : ℕ) → length m ≡ 13 → n < 104 → 1 ≤ t → t ≤ n
+    → bitOf (withTypesTo n m on) t ≡ (bitOf m t || on t)
 unfolding withTypesTo
-bit-put m marks t zero s l a b = absurd (omega arith)
-bit-put m marks t (suc n) s l a b =
-    bit-with (withTypesTo n m marks) t (suc n) (marked marks (suc n)) (length-types n m marks ∙ s) l
+bit-put m on t zero s l a b = absurd (omega arith)
+bit-put m on t (suc n) s l a b =
+    bit-with (withTypesTo n m on) t (suc n) (on (suc n)) (length-types n m on ∙ s) l
     ∙ cases-eq t (suc n)
     (λ e.
-    rw (e, eq-eqb (suc n) (suc n) refl, bit-apart m marks (suc n) n s (omega arith) (λ k a b z. omega arith))
-    (or-swapped (marked marks (suc n)) (bitOf m (suc n))))
-    (λ e. rw (ne-eqb t (suc n) e, and-false) (bit-put m marks t n s (omega arith) a (omega (arith, e))))
+    rw (e, eq-eqb (suc n) (suc n) refl, bit-apart m on (suc n) n s (omega arith) (λ k a b z. omega arith))
+    (or-swapped (on (suc n)) (bitOf m (suc n))))
+    (λ e. rw (ne-eqb t (suc n) e, and-false) (bit-put m on t n s (omega arith) a (omega (arith, e))))
 
--- Type numbers: marks are put in, and what was there stays.
-pub bits-put : (m marks : List ℕ) (t : ℕ) → length m ≡ 13 → 1 ≤ t → t ≤ 99
-    → bitOf (withTypes m marks) t ≡ (bitOf m t || marked marks t)
+-- Type numbers: those that pass are put in, and what was there stays.
+pub bits-put : (m : List ℕ) (on : ℕ → Bool) (t : ℕ) → length m ≡ 13 → 1 ≤ t → t ≤ 99
+    → bitOf (withTypes m on) t ≡ (bitOf m t || on t)
 unfolding withTypes
-bits-put m marks t s a b = bit-put m marks t 99 s (omega arith) a b
+bits-put m on t s a b = bit-put m on t 99 s (omega arith) a b
 
 -- No bit is put in that is no type's.
-pub spared-put : (m marks : List ℕ) → length m ≡ 13 → Spared m → Spared (withTypes m marks)
+pub spared-put : (m : List ℕ) (on : ℕ → Bool) → length m ≡ 13 → Spared m → Spared (withTypes m on)
 unfolding withTypes
-spared-put m marks s h = record {
-  first = bit-apart m marks 0 99 s (omega arith) (λ k a b e. omega arith) ∙ h .first;
-  behind = λ n l u. bit-apart m marks n 99 s (omega arith) (λ k a b e. omega arith) ∙ h .behind n l u;
+spared-put m on s h = record {
+  first = bit-apart m on 0 99 s (omega arith) (λ k a b e. omega arith) ∙ h .first;
+  behind = λ n l u. bit-apart m on n 99 s (omega arith) (λ k a b e. omega arith) ∙ h .behind n l u;
 }
 
-pub clear-put : (m marks : List ℕ) → length m ≡ 13 → spareClear m ≡ true → spareClear (withTypes m marks) ≡ true
-clear-put m marks s e = spared-clear (withTypes m marks) (spared-put m marks s (spared m e))
+pub clear-put : (m : List ℕ) (on : ℕ → Bool) → length m ≡ 13 → spareClear m ≡ true → spareClear (withTypes m on) ≡ true
+clear-put m on s e = spared-clear (withTypes m on) (spared-put m on s (spared m e))
 
--- What the bytes say with the marks put in: the types that they said, and those marked.
-pub types-put : (m marks : List ℕ) → length m ≡ 13 → spareClear m ≡ true
-    → typesIn (withTypes m marks) ≡ typesWhich (λ n. among (typesIn m) n || marked marks n)
-types-put m marks s e =
-    clear-types (withTypes m marks) (clear-put m marks s e)
-    ∙ which-same (bitOf (withTypes m marks)) (λ n. among (typesIn m) n || marked marks n)
-    (λ n a b. bits-put m marks n s a b ∙ ap (λ x. x || marked marks n) (sym (among-any m n s)))
+-- What the bytes say with more put in: the types that they said, and those that pass.
+pub types-put : (m : List ℕ) (on : ℕ → Bool) → length m ≡ 13 → spareClear m ≡ true
+    → typesIn (withTypes m on) ≡ typesWhich (λ n. among (typesIn m) n || on n)
+types-put m on s e =
+    clear-types (withTypes m on) (clear-put m on s e)
+    ∙ which-same (bitOf (withTypes m on)) (λ n. among (typesIn m) n || on n)
+    (λ n a b. bits-put m on n s a b ∙ ap (λ x. x || on n) (sym (among-any m n s)))
 
 -- ---- marks of what is remembered
 

@@ -41,16 +41,16 @@ unfoldable pub withType : List ℕ → ℕ → Bool → List ℕ
 unfolding withFlag
 withType m t on = cond on (set m (t / 8) (withFlag (t % 8) (getD m (t / 8) 0))) m
 
--- the bytes with the bits of the marked numbers 1 to n
-unfoldable pub withTypesTo : ℕ → List ℕ → List ℕ → List ℕ
+-- the bytes with the bits of the numbers 1 to n that pass a test
+unfoldable pub withTypesTo : ℕ → List ℕ → (ℕ → Bool) → List ℕ
 unfolding withType
-withTypesTo zero m marks = m
-withTypesTo (suc n) m marks = withType (withTypesTo n m marks) (suc n) (marked marks (suc n))
+withTypesTo zero m on = m
+withTypesTo (suc n) m on = withType (withTypesTo n m on) (suc n) (on (suc n))
 
--- the bytes with the bits of the marked numbers that a type may have
-unfoldable pub withTypes : List ℕ → List ℕ → List ℕ
+-- of those that a type may have
+unfoldable pub withTypes : List ℕ → (ℕ → Bool) → List ℕ
 unfolding withTypesTo
-withTypes m marks = withTypesTo 99 m marks
+withTypes m on = withTypesTo 99 m on
 
 -- marks by number, as the bits of the numbers below n are
 pub record MarksTo (m marks : List ℕ) (n : ℕ) : Type 0 where

@@ -115,7 +115,7 @@ fn put_type(m: &mut [u8], n: u8, on: bool)
 
 // The bytes with the bits of the marked numbers that a type may have, 1 to 99.
 pub fn with_types(m: [u8; 13], marks: [u8; 100]) -> [u8; 13]
-    ensures { λ r. ⌜ r ≡ withTypes m marks ⌝ }
+    ensures { λ r. ⌜ r ≡ withTypes m (marked marks) ⌝ }
 {
     let mut r = m;
     let mut n: u8 = 0;

@@ -10,8 +10,8 @@ use Rattle.tables.proofs.Counts.{cases, cases-eq}
 use mathlib.Core.List.{List}
 use lib.Dec.{eqb}
 use Rattle.tables.specs.Bytes.{byteAt}
-use Rattle.places.specs.Layout.{typePlaces, typeBase, typeWidth, typeAt, rulePlaces, ruleBase, ruleWidth, ruleAt, rowPlaces, rowBase, rowWidth, rowAt, periodPlaces, periodBase, periodWidth, periodAt}
-use Rattle.owners.specs.Next.{firstFrom, next, Passed, owned, nextType, nextRule, nextRow, nextPeriod}
+use Rattle.places.specs.Layout.{typePlaces, typeBase, typeWidth, typeAt, rulePlaces, ruleBase, ruleWidth, ruleAt, rowPlaces, rowBase, rowWidth, rowAt, periodPlaces, periodBase, periodWidth, periodAt, instructionPlaces, instructionBase, instructionWidth, instructionAt}
+use Rattle.owners.specs.Next.{firstFrom, next, Passed, owned, nextType, nextRule, nextRow, nextPeriod, nextInstruction}
 
 module _ (p : ℕ → Bool) where
   -- ---- how it is found
@@ -157,3 +157,8 @@ module _ (b : List ℕ) (a i r : ℕ) where
   pub next-period : r ≡ next (owned b periodBase periodWidth a) periodPlaces i → r ≡ nextPeriod b a i
   unfolding nextPeriod periodAt
   next-period e = e ∙ same _ (λ k. eqb (periodAt b k .csd) a) periodPlaces i (λ k. ap (λ x. eqb (byteAt b x) a) (omega arith))
+
+  pub next-instruction : r ≡ next (owned b instructionBase instructionWidth a) instructionPlaces i → r ≡ nextInstruction b a i
+  unfolding nextInstruction instructionAt
+  next-instruction e =
+      e ∙ same _ (λ k. eqb (instructionAt b k .csd) a) instructionPlaces i (λ k. ap (λ x. eqb (byteAt b x) a) (omega arith))

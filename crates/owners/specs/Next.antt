@@ -5,7 +5,7 @@ use mathlib.Core.Bool.{Bool, false, cond}
 use mathlib.Core.List.{List}
 use lib.Dec.{eqb, leb}
 use Rattle.tables.specs.Bytes.{byteAt}
-use Rattle.places.specs.Layout.{typePlaces, typeAt, rulePlaces, ruleAt, rowPlaces, rowAt, periodPlaces, periodAt}
+use Rattle.places.specs.Layout.{typePlaces, typeAt, rulePlaces, ruleAt, rowPlaces, rowAt, periodPlaces, periodAt, instructionPlaces, instructionAt}
 
 -- the first of n places from place i on where p holds; i + n where there is none
 unfoldable pub firstFrom : (ℕ → Bool) → ℕ → ℕ → ℕ
@@ -38,3 +38,6 @@ nextRow b a i = next (λ k. eqb (rowAt b k .csd) a) rowPlaces i
 
 unfoldable pub nextPeriod : List ℕ → ℕ → ℕ → ℕ
 nextPeriod b a i = next (λ k. eqb (periodAt b k .csd) a) periodPlaces i
+
+unfoldable pub nextInstruction : List ℕ → ℕ → ℕ → ℕ
+nextInstruction b a i = next (λ k. eqb (instructionAt b k .csd) a) instructionPlaces i

@@ -5,8 +5,9 @@ ghost use Prim.Native.Nat.{_+_, _*_, _<_, _≤_};
 ghost use lib.Dec.{eqb};
 ghost use lib.ListN.{length};
 ghost use Rattle.tables.specs.Bytes.{byteAt};
-ghost use Rattle.owners.specs.Next.{firstFrom, owned, next, Passed, nextType, nextRule, nextRow, nextPeriod};
+ghost use Rattle.owners.specs.Next.{firstFrom, owned, next, Passed, nextType, nextRule, nextRow, nextPeriod, nextInstruction};
 use basics::byte_at;
+use places::Kept;
 use places::Period;
 use places::RestrictionType;
 use places::Row;
@@ -96,4 +97,10 @@ pub fn next_period(b: &[u8], i: u16, a: u8) -> u16
     ensures { λ r. ⌜ r ≡ nextPeriod (now (b .entry)) a i ⌝ }
 {
     next(b, i, Period::START, Period::WIDTH, Period::PLACES, a)
+}
+
+pub fn next_instruction(b: &[u8], i: u16, a: u8) -> u16
+    ensures { λ r. ⌜ r ≡ nextInstruction (now (b .entry)) a i ⌝ }
+{
+    next(b, i, Kept::START, Kept::WIDTH, Kept::PLACES, a)
 }

@@ -1,4 +1,4 @@
--- The book's four tables: where each place starts, the numbers that stand there, and the record that they are.
+-- The book's tables: where each place starts, the numbers that stand there, and the record that they are.
 -- Written by tools/places.py: change that, then run tools/generate.
 use Prim.Native.Nat.{ℕ, _+_, _*_}
 use mathlib.Core.List.{List, [], _∷_}
@@ -8,6 +8,7 @@ use Rattle.places.specs.declared.RestrictionType.{RestrictionType}
 use Rattle.places.specs.declared.Rule.{Rule}
 use Rattle.places.specs.declared.Row.{Row}
 use Rattle.places.specs.declared.Period.{Period}
+use Rattle.places.specs.declared.Kept.{Kept}
 
 -- the book's size
 abbrev pub bookSize : ℕ
@@ -178,3 +179,56 @@ putPeriod b i r = puts b (periodStart i) 0 (bytesOf periodWidths (periodNumbers 
 
 abbrev pub zeroPeriod : Period
 zeroPeriod = record { csd = 0; kind = 0; number = 0; code = 0; first = 0; last = 0 }
+
+-- ---- 256 places of 44 bytes, from 51200
+
+abbrev pub instructionPlaces : ℕ
+instructionPlaces = 256
+
+abbrev pub instructionBase : ℕ
+instructionBase = 51200
+
+abbrev pub instructionWidth : ℕ
+instructionWidth = 44
+
+abbrev pub instructionStart : ℕ → ℕ
+instructionStart i = instructionBase + i * instructionWidth
+
+abbrev pub instructionWidths : List Width
+instructionWidths = one ∷ two ∷ one ∷ one ∷ one ∷ one ∷ four ∷ three ∷ three ∷ three ∷ three ∷ four ∷ four ∷ one ∷ one ∷ one ∷ one ∷ one ∷ one ∷ one ∷ one ∷ one ∷ one ∷ one ∷ one ∷ one ∷ []
+
+abbrev pub instructionFrom : List ℕ → Kept
+instructionFrom v = record {
+  csd = getD v 0 0;
+  reference = getD v 1 0;
+  object = getD v 2 0;
+  role = getD v 3 0;
+  movement = getD v 4 0;
+  payment = getD v 5 0;
+  transaction = getD v 6 0;
+  currency = getD v 7 0;
+  party = getD v 8 0;
+  account = getD v 9 0;
+  security = getD v 10 0;
+  validating = getD v 11 0;
+  holding = getD v 12 0;
+  remembered = drop 13 v;
+}
+
+abbrev pub instructionNumbers : Kept → List ℕ
+instructionNumbers r =
+    r .csd ∷ r .reference ∷ r .object ∷ r .role ∷ r .movement
+    ∷ r .payment ∷ r .transaction ∷ r .currency ∷ r .party ∷ r .account
+    ∷ r .security ∷ r .validating ∷ r .holding ∷ getD (r .remembered) 0 0 ∷ getD (r .remembered) 1 0
+    ∷ getD (r .remembered) 2 0 ∷ getD (r .remembered) 3 0 ∷ getD (r .remembered) 4 0 ∷ getD (r .remembered) 5 0 ∷ getD (r .remembered) 6 0
+    ∷ getD (r .remembered) 7 0 ∷ getD (r .remembered) 8 0 ∷ getD (r .remembered) 9 0 ∷ getD (r .remembered) 10 0 ∷ getD (r .remembered) 11 0
+    ∷ getD (r .remembered) 12 0 ∷ []
+
+unfoldable pub instructionAt : List ℕ → ℕ → Kept
+instructionAt b i = instructionFrom (numbers instructionWidths b (instructionStart i) 0)
+
+unfoldable pub putInstruction : List ℕ → ℕ → Kept → List ℕ
+putInstruction b i r = puts b (instructionStart i) 0 (bytesOf instructionWidths (instructionNumbers r))
+
+abbrev pub zeroInstruction : Kept
+zeroInstruction = record { csd = 0; reference = 0; object = 0; role = 0; movement = 0; payment = 0; transaction = 0; currency = 0; party = 0; account = 0; security = 0; validating = 0; holding = 0; remembered = replicate 13 0 }

@@ -2,8 +2,9 @@
 // Written by tools/places.py: change that, then run tools/generate.
 ghost use mathlib.Core.Path.{_≡_};
 ghost use Prim.Native.Nat.{_+_, _*_};
+ghost use mathlib.Core.List.{[], _∷_};
 ghost use Rattle.tables.specs.Bytes.{byteAt, one, two, three, four, number};
-ghost use Rattle.places.specs.Layout.{typeAt, zeroType, ruleAt, zeroRule, rowAt, zeroRow, periodAt, zeroPeriod};
+ghost use Rattle.places.specs.Layout.{typeAt, zeroType, ruleAt, zeroRule, rowAt, zeroRow, periodAt, zeroPeriod, instructionAt, zeroInstruction};
 use basics::wide;
 
 // The book's exact size in bytes (docs/LAYOUT.md).
@@ -424,5 +425,143 @@ pub fn period_at(b: &[u8], i: u16) -> Period
         code: two_at(b, at, 5),
         first: four_at(b, at, 7),
         last: four_at(b, at, 11),
+    }
+}
+
+// A pending instruction that is kept: the days since which its holds are on, 0 where off, and the types remembered.
+pub struct Kept {
+    pub csd: u8,
+    pub reference: u32,
+    pub object: u8,
+    pub role: u32,
+    pub movement: u32,
+    pub payment: u32,
+    pub transaction: u32,
+    pub currency: u32,
+    pub party: u32,
+    pub account: u32,
+    pub security: u32,
+    pub validating: u32,
+    pub holding: u32,
+    pub remembered: [u8; 13],
+}
+
+impl Kept {
+    pub const QUOTA: u16 = 32;
+
+    pub const PLACES: u16 = 256;
+
+    // The address of the first place, and the bytes of each.
+    pub const START: u16 = 51200;
+
+    pub const WIDTH: u8 = 44;
+
+    // What stands at a free place.
+    pub fn zero() -> Kept
+        ensures { λ r. ⌜ r ≡ zeroInstruction ⌝ }
+    {
+        Kept {
+            csd: 0,
+            reference: 0,
+            object: 0,
+            role: 0,
+            movement: 0,
+            payment: 0,
+            transaction: 0,
+            currency: 0,
+            party: 0,
+            account: 0,
+            security: 0,
+            validating: 0,
+            holding: 0,
+            remembered: [0; 13],
+        }
+    }
+
+    pub fn new(
+        csd: u8,
+        reference: u32,
+        object: u8,
+        role: u32,
+        movement: u32,
+        payment: u32,
+        transaction: u32,
+        currency: u32,
+        party: u32,
+        account: u32,
+        security: u32,
+        validating: u32,
+        holding: u32,
+        remembered: [u8; 13],
+    ) -> Kept
+        ensures { λ r. ⌜ r ≡ record { csd = csd; reference = reference; object = object; role = role; movement = movement; payment = payment; transaction = transaction; currency = currency; party = party; account = account; security = security; validating = validating; holding = holding; remembered = remembered } ⌝ }
+    {
+        Kept {
+            csd,
+            reference,
+            object,
+            role,
+            movement,
+            payment,
+            transaction,
+            currency,
+            party,
+            account,
+            security,
+            validating,
+            holding,
+            remembered,
+        }
+    }
+}
+
+// Whose the place is, 0 where it is free.
+pub fn instruction_csd(b: &[u8], i: u16) -> u8
+    ensures { λ r. ⌜ r ≡ instructionAt (now (b .entry)) i .csd ⌝ }
+{
+    byte_at(b, address(Kept::START, Kept::WIDTH, i), 0)
+}
+
+// The 13 bytes of remembered.
+fn remembered_at(b: &[u8], at: u32) -> [u8; 13]
+    ensures { λ r. ⌜ r ≡ number one (now (b .entry)) at 31 ∷ number one (now (b .entry)) at 32 ∷ number one (now (b .entry)) at 33 ∷ number one (now (b .entry)) at 34 ∷ number one (now (b .entry)) at 35 ∷ number one (now (b .entry)) at 36 ∷ number one (now (b .entry)) at 37 ∷ number one (now (b .entry)) at 38 ∷ number one (now (b .entry)) at 39 ∷ number one (now (b .entry)) at 40 ∷ number one (now (b .entry)) at 41 ∷ number one (now (b .entry)) at 42 ∷ number one (now (b .entry)) at 43 ∷ [] ⌝ }
+{
+    [
+        byte_at(b, at, 31),
+        byte_at(b, at, 32),
+        byte_at(b, at, 33),
+        byte_at(b, at, 34),
+        byte_at(b, at, 35),
+        byte_at(b, at, 36),
+        byte_at(b, at, 37),
+        byte_at(b, at, 38),
+        byte_at(b, at, 39),
+        byte_at(b, at, 40),
+        byte_at(b, at, 41),
+        byte_at(b, at, 42),
+        byte_at(b, at, 43),
+    ]
+}
+
+pub fn instruction_at(b: &[u8], i: u16) -> Kept
+    ensures { λ r. ⌜ r ≡ instructionAt (now (b .entry)) i ⌝ }
+{
+    let at = address(Kept::START, Kept::WIDTH, i);
+    let remembered = remembered_at(b, at);
+    Kept {
+        csd: byte_at(b, at, 0),
+        reference: two_at(b, at, 1),
+        object: byte_at(b, at, 3),
+        role: one_at(b, at, 4),
+        movement: one_at(b, at, 5),
+        payment: one_at(b, at, 6),
+        transaction: four_at(b, at, 7),
+        currency: three_at(b, at, 11),
+        party: three_at(b, at, 14),
+        account: three_at(b, at, 17),
+        security: three_at(b, at, 20),
+        validating: four_at(b, at, 23),
+        holding: four_at(b, at, 27),
+        remembered,
     }
 }

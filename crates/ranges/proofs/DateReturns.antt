@@ -1,7 +1,7 @@
 -- Dates by their month and day, with the lengths of the months in one number.
 use Prim.Native.Nat.{ℕ, _+_, _*_, _-_, _/_, _%_, _^_, _≤_, _<_}
 use mathlib.Core.Path.{_≡_, refl, sym, _∙_}
-use mathlib.Core.Bool.{Bool, true, false, _&&_, not}
+use mathlib.Core.Bool.{Bool, true, false, _&&_, _||_, not}
 use native.Mathlib.Omega.{arith}
 use lib.Bits.{bitAnd, and-le-r}
 use mir.Syntax.{w32}
@@ -12,7 +12,7 @@ use borrow.Author.Tests.{eqb-true, eq-eqb, leb-true, leb-false, le-leb, ltb-true
 use Rattle.tables.specs.Count.{allBelow}
 use Rattle.tables.proofs.Counts.{cases, both, and-l, and-r, agree, all-at}
 use Rattle.meaning.specs.Fields.{within}
-use Rattle.meaning.specs.Forms.{months, monthLength, holds}
+use Rattle.meaning.specs.Forms.{optional, day as dayForm, months, monthLength, holds}
 use Rattle.meaning.specs.Sound.{daysFit}
 use Rattle.ranges.specs.Values.{monthDay}
 
@@ -157,3 +157,10 @@ pub days-said : (f l : ℕ) {r a o d p q : Bool} → r ≡ (a && d) → a ≡ (l
     → d ≡ (p && q) → p ≡ monthDay f → q ≡ monthDay l → r ≡ daysFit f l
 unfolding daysFit holds monthDay
 days-said f l e a o d p q = rw (e, a, o, d, p, q) (days-order f l (monthDay f) (monthDay l))
+
+-- ---- a day or none
+
+pub optional-said : (n : ℕ) {r d y p : Bool} → r ≡ (eqb n 0 || d) → d ≡ (y && p) → y ≡ within 2000 2099 (n / 10000)
+    → p ≡ monthDay n → r ≡ holds (optional dayForm) n
+unfolding holds monthDay
+optional-said n e f g h = rw (e, f, g, h)

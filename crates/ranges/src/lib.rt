@@ -1,12 +1,13 @@
 // The ranges of days, keys, codes and letters that stand in records.
 ghost use mathlib.Core.Path.{_≡_};
 ghost use Rattle.meaning.specs.Fields.{isCapital};
-ghost use Rattle.meaning.specs.Forms.{holds, code, isWord};
+ghost use Rattle.meaning.specs.Forms.{holds, optional, code, day, isWord};
 ghost use Rattle.meaning.specs.Sound.{daysFit, keyFits};
 ghost use Rattle.ranges.specs.Values.{monthDay};
 use basics::and;
 use basics::byte_within;
 use basics::no;
+use basics::or;
 use basics::within;
 use places::RestrictionType;
 
@@ -39,6 +40,13 @@ pub fn days_fit(first: u32, last: u32) -> bool
     let order = and(first <= last, last < 21000000);
     let dates = and(is_date(first), is_date(last));
     and(and(20000000 <= first, order), dates)
+}
+
+// A day, or 0 for none.
+pub fn day_or_none(n: u32) -> bool
+    ensures { λ r. ⌜ r ≡ holds (optional day) n ⌝ }
+{
+    or(n == 0, and(within(2000, 2099, n / 10000), is_date(n)))
 }
 
 pub fn key_fits(number: u8, object: u8) -> bool

@@ -3,22 +3,25 @@
 use Prim.Native.Nat.{ℕ, _/_, _≤_, _<_}
 use mathlib.Core.Path.{_≡_, ap, _∙_}
 use mathlib.Core.Bool.{true}
+use mathlib.Core.List.{List}
 use native.Mathlib.Omega.{arith}
 use lib.Dec.{eqb}
 use lib.ListN.{length, getD}
 use borrow.Author.Tests.{eqb-true, leb-true}
 use Rattle.tables.specs.Bytes.{Hold}
 use Rattle.tables.proofs.Counts.{cases, ands}
+use Rattle.meaning.specs.Records as M
 use Rattle.meaning.specs.Fields.{within}
-use Rattle.meaning.specs.Forms.{Form, holds, holdsAll, upTo, day, code, letters, optional, tenValues}
-use Rattle.meaning.specs.Sound.{daysFit, keyFits, typeFits, ruleFits, rowFits, periodFits}
-use Rattle.places.specs.Layout.{typeWidths, ruleWidths, rowWidths, periodWidths, typeNumbers, ruleNumbers, rowNumbers, periodNumbers}
+use Rattle.meaning.specs.Forms.{Form, holds, holdsAll, upTo, day, code, letters, optional, tenValues, nineForms, referenceForm}
+use Rattle.meaning.specs.Sound.{daysFit, keyFits, typeFits, ruleFits, rowFits, periodFits, nineOf, keptFits}
+use Rattle.places.specs.Layout.{typeWidths, ruleWidths, rowWidths, periodWidths, instructionWidths, typeNumbers, ruleNumbers, rowNumbers, periodNumbers, instructionNumbers}
 use Rattle.places.specs.declared.RestrictionType.{RestrictionType}
 use Rattle.places.specs.declared.Rule.{Rule}
 use Rattle.places.specs.declared.Row.{Row}
 use Rattle.places.specs.declared.Period.{Period}
+use Rattle.places.specs.declared.Kept.{Kept}
 use Rattle.places.proofs.TenValues.{ten}
-use Rattle.records.specs.Said.{typeOf, ruleOf, rowOf, periodOf}
+use Rattle.records.specs.Said.{typeOf, ruleOf, rowOf, periodOf, instructionOf}
 
 pub most : (m n : ℕ) → within 1 m n ≡ true → n ≤ m
 most m n e = leb-true n m (search ands)
@@ -108,4 +111,70 @@ period-hold r c e =
     also omega (arith, code-most (r .code) (search ands))
     also omega (arith, day-most (r .first) (search ands))
     also omega (arith, day-most (r .last) (search ands))
+    also tt
+
+-- a number that is a day or none
+or-day : (n : ℕ) → holds (optional day) n ≡ true → n < 21000000
+or-day n = or-empty day n 21000000 (omega arith) (day-most n)
+
+reference-most : (n : ℕ) → holds referenceForm n ≡ true → n ≤ 9999
+unfolding holds
+reference-most n e = most 9999 n e
+
+-- the nine fields from object to security
+nine-most : (k : M.Kept) → holdsAll nineForms (nineOf k) ≡ true
+    → (k .object < 256) × (k .partyType < 256) × (k .movement < 256) × (k .payment < 256) × (k .transaction < 4294967296)
+    × (k .currency < 16777216) × (k .party < 16777216) × (k .account < 16777216) × (k .security < 16777216)
+unfolding holds holdsAll
+nine-most k e = (
+  omega (arith, most 2 (k .object) (search ands)),
+  omega (arith, most 3 (k .partyType) (search ands)),
+  omega (arith, or-most 2 (k .movement) (search ands)),
+  omega (arith, or-most 2 (k .payment) (search ands)),
+  or-empty (letters 4) (k .transaction) 4294967296 (omega arith) (transaction-most (k .transaction)) (search ands),
+  or-empty (letters 3) (k .currency) 16777216 (omega arith) (currency-most (k .currency)) (search ands),
+  omega (arith, most 999999 (k .party) (search ands depth 14)),
+  omega (arith, most 999999 (k .account) (search ands depth 14)),
+  omega (arith, most 999999 (k .security) (search ands depth 14)),
+)
+
+-- each byte of a list
+abbrev pub Bytes : List ℕ → Type 0
+Bytes m = (k : ℕ) → getD m k 0 < 256
+
+pub instruction-hold : (r : Kept) → r .csd ≤ 8 → Bytes (r .remembered) → keptFits (instructionOf r) ≡ true
+    → Hold instructionWidths (instructionNumbers r)
+unfolding keptFits instructionOf holdsAll
+instruction-hold r c m e =
+    let f : holdsAll nineForms (nineOf (instructionOf r)) ≡ true = search ands in
+    let reference : holds referenceForm (r .reference) ≡ true = search ands in
+    let validating : holds (optional day) (r .validating) ≡ true = search ands in
+    let holding : holds (optional day) (r .holding) ≡ true = search ands in
+    let nine = nine-most (instructionOf r) f in
+    omega arith
+    also omega (arith, reference-most (r .reference) reference)
+    also nine .0
+    also nine .1
+    also nine .2
+    also nine .3
+    also nine .4
+    also nine .5
+    also nine .6
+    also nine .7
+    also nine .8
+    also omega (arith, or-day (r .validating) validating)
+    also omega (arith, or-day (r .holding) holding)
+    also m 0
+    also m 1
+    also m 2
+    also m 3
+    also m 4
+    also m 5
+    also m 6
+    also m 7
+    also m 8
+    also m 9
+    also m 10
+    also m 11
+    also m 12
     also tt

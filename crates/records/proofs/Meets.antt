@@ -1,14 +1,18 @@
 -- What the arms of the code's matches on a question return.
 use Prim.Native.Nat.{ℕ}
 use mathlib.Core.Path.{_≡_, sym, _∙_}
-use mathlib.Core.Bool.{Bool, true, false, not, _&&_}
+use mathlib.Core.Bool.{Bool, true, false, not, cond, _&&_}
 use lib.Dec.{eqb}
 use Rattle.meaning.specs.Records as M
-use Rattle.meaning.specs.Keys.{isRule, isRow, filled}
+use Rattle.meaning.specs.Keys.{isRule, isRow, isKept, filled}
 use Rattle.meaning.specs.Text.{same}
 use Rattle.meaning.specs.Sound.{fillsRule}
 use Rattle.meaning.specs.Refusals.{outside, typeOutside, otherCriteria}
-use Rattle.records.specs.Asks.{typeMeets, ruleMeets, rowMeets, periodMeets}
+use Rattle.meaning.specs.Pending.{heldSince, isHeld, heldBy}
+use Rattle.meaning.specs.Records.{validationHold, partyHold}
+use Rattle.places.specs.declared.Kept.{Kept}
+use Rattle.records.specs.Said.{instructionOf}
+use Rattle.records.specs.Asks.{typeMeets, ruleMeets, rowMeets, periodMeets, instructionMeets}
 use Rattle.records.specs.declared.TypeAsk.{TypeAsk}
 use Rattle.records.specs.declared.TypeAsk.the-variants as Types
 use Rattle.records.specs.declared.RuleAsk.{RuleAsk}
@@ -17,6 +21,8 @@ use Rattle.records.specs.declared.RowAsk.{RowAsk}
 use Rattle.records.specs.declared.RowAsk.the-variants as Rows
 use Rattle.records.specs.declared.PeriodAsk.{PeriodAsk}
 use Rattle.records.specs.declared.PeriodAsk.the-variants as Periods
+use Rattle.records.specs.declared.InstructionAsk.{InstructionAsk}
+use Rattle.records.specs.declared.InstructionAsk.the-variants as Instructions
 
 pub type-any : (q : TypeAsk) (t : M.TypeRecord) → q ≡ Types.Any → true ≡ typeMeets q t
 unfolding typeMeets
@@ -87,3 +93,28 @@ same-yes w t k r e f g = rw (sym e ∙ f) g
 pub same-no : (w t : M.Row) (k : Bool) → k ≡ rowMeets Rows.OfRule w t → k ≡ false → false ≡ rowMeets Rows.Same w t
 unfolding rowMeets isRow
 same-no w t k e f = rw (sym e ∙ f)
+
+-- ---- kept instructions
+
+pub instruction-any : (q : InstructionAsk) (t : M.Kept) → q ≡ Instructions.Any → true ≡ instructionMeets q t
+unfolding instructionMeets
+instruction-any q t e = rw e
+
+pub instruction-met : (q q′ : InstructionAsk) (t : M.Kept) (r : Bool) → q ≡ q′ → r ≡ instructionMeets q′ t
+    → r ≡ instructionMeets q t
+instruction-met q q′ t r e f = rw (e, f)
+
+pub instruction-named : (q : InstructionAsk) (t : Kept) (reference : ℕ) → q ≡ Instructions.Named reference
+    → eqb (t .reference) reference ≡ instructionMeets q (instructionOf t)
+unfolding instructionMeets isKept instructionOf
+instruction-named q t reference e = rw e
+
+pub since-by : (t : M.Kept) (hold n r : ℕ) → r ≡ cond (eqb hold validationHold) (t .validating) n
+    → n ≡ cond (eqb hold partyHold) (t .holding) 0 → r ≡ heldSince t hold
+unfolding heldSince
+since-by t hold n r e f = rw (e, f)
+
+pub held-by : (t : M.Kept) (reference hold n : ℕ) (x r : Bool) → r ≡ (eqb (t .reference) reference && x)
+    → x ≡ not (eqb n 0) → n ≡ heldSince t hold → r ≡ instructionMeets (Instructions.Held reference hold) t
+unfolding instructionMeets heldBy isKept isHeld
+held-by t reference hold n x r e f g = rw (e, f, g)

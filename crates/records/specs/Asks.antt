@@ -1,8 +1,9 @@
 -- What is asked of the records of a table: a case for each test. Assumes nothing.
 use mathlib.Core.Bool.{Bool, true}
 use Rattle.meaning.specs.Records as M
-use Rattle.meaning.specs.Keys.{isType, isRule, ofRule, isRow, isPeriod, clash}
+use Rattle.meaning.specs.Keys.{isType, isRule, ofRule, isRow, isPeriod, isKept, clash}
 use Rattle.meaning.specs.Refusals.{typeOutside, periodOutside, otherCriteria}
+use Rattle.meaning.specs.Pending.{heldBy}
 use Rattle.meaning.specs.Sound.{fillsRule}
 use Rattle.records.specs.Said.{periodOf}
 use Rattle.records.specs.declared.TypeAsk.{TypeAsk}
@@ -13,6 +14,8 @@ use Rattle.records.specs.declared.RowAsk.{RowAsk}
 use Rattle.records.specs.declared.RowAsk.the-variants as Rows
 use Rattle.records.specs.declared.PeriodAsk.{PeriodAsk}
 use Rattle.records.specs.declared.PeriodAsk.the-variants as Periods
+use Rattle.records.specs.declared.InstructionAsk.{InstructionAsk}
+use Rattle.records.specs.declared.InstructionAsk.the-variants as Instructions
 
 unfoldable pub typeMeets : TypeAsk → M.TypeRecord → Bool
 typeMeets Types.Any t = true
@@ -38,3 +41,8 @@ periodMeets Periods.Any p = true
 periodMeets (Periods.Clash a) p = clash (periodOf a) p
 periodMeets (Periods.Named kind number code first) p = isPeriod kind number code first p
 periodMeets (Periods.Outside kind number code first last) p = periodOutside kind number code first last p
+
+unfoldable pub instructionMeets : InstructionAsk → M.Kept → Bool
+instructionMeets Instructions.Any k = true
+instructionMeets (Instructions.Named reference) k = isKept reference k
+instructionMeets (Instructions.Held reference hold) k = heldBy reference hold k

@@ -4,6 +4,8 @@ use Rattle.places.specs.declared.RestrictionType.{RestrictionType}
 use Rattle.places.specs.declared.Rule.{Rule}
 use Rattle.places.specs.declared.Row.{Row}
 use Rattle.places.specs.declared.Period.{Period}
+use Rattle.places.specs.declared.Kept.{Kept}
+use Rattle.memory.specs.Remembered.{typesIn}
 
 unfoldable pub typeOf : RestrictionType → M.TypeRecord
 typeOf r = record { type = r .number; object = r .object; processing = r .processing; first = r .first; last = r .last }
@@ -16,3 +18,20 @@ rowOf r = record { type = r .number; object = r .object; sequence = r .sequence;
 
 unfoldable pub periodOf : Period → M.Period
 periodOf r = record { kind = r .kind; number = r .number; code = r .code; first = r .first; last = r .last }
+
+unfoldable pub instructionOf : Kept → M.Kept
+instructionOf r = record {
+  reference = r .reference;
+  object = r .object;
+  partyType = r .role;
+  movement = r .movement;
+  payment = r .payment;
+  transaction = r .transaction;
+  currency = r .currency;
+  party = r .party;
+  account = r .account;
+  security = r .security;
+  validating = r .validating;
+  holding = r .holding;
+  remembered = typesIn (r .remembered);
+}

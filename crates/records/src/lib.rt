@@ -6,14 +6,17 @@ ghost use Rattle.tables.specs.Count.{bit, allBelow};
 ghost use Rattle.meaning.specs.Keys.{filled, isRule};
 ghost use Rattle.meaning.specs.Text.{same};
 ghost use Rattle.meaning.specs.Refusals.{outside};
-ghost use Rattle.records.specs.Said.{typeOf, ruleOf, rowOf, periodOf};
+ghost use Rattle.meaning.specs.Pending.{heldSince};
+ghost use Rattle.records.specs.Said.{typeOf, ruleOf, rowOf, periodOf, instructionOf};
 ghost use Rattle.records.specs.Criteria.{belongs, agrees, filledCount};
 ghost use Rattle.records.specs.Values.{firstDifference};
-ghost use Rattle.records.specs.Asks.{typeMeets, ruleMeets, rowMeets, periodMeets};
+ghost use Rattle.records.specs.Asks.{typeMeets, ruleMeets, rowMeets, periodMeets, instructionMeets};
 use basics::and;
 use basics::no;
 use basics::one_if;
 use basics::or;
+use basics::pick;
+use places::Kept;
 use places::Period;
 use places::RestrictionType;
 use places::Row;
@@ -49,6 +52,13 @@ pub enum PeriodAsk {
     Clash(Period),
     Named(u8, u32, u32, u32),
     Outside(u8, u32, u32, u32, u32),
+}
+
+// Held: the instruction of that reference, with that hold on.
+pub enum InstructionAsk {
+    Any,
+    Named(u32),
+    Held(u32, u8),
 }
 
 // ---- The criteria that a row fills (document 01, 'Records').
@@ -258,5 +268,32 @@ pub fn period_meets(t: Period, q: PeriodAsk) -> bool
         PeriodAsk::Outside(kind, number, code, first, last) => {
             period_outside(t, kind, number, code, first, last)
         }
+    }
+}
+
+// The day since which a hold is on; 0 where it is off.
+pub fn held_since(t: Kept, hold: u8) -> u32
+    ensures { λ r. ⌜ r ≡ heldSince (instructionOf t) hold ⌝ }
+{
+    pick(
+        hold == RestrictionType::VALIDATION_HOLD,
+        t.validating,
+        pick(hold == RestrictionType::PARTY_HOLD, t.holding, 0),
+    )
+}
+
+fn is_held(t: Kept, reference: u32, hold: u8) -> bool
+    ensures { λ r. ⌜ r ≡ instructionMeets (InstructionAsk.Held reference hold) (instructionOf t) ⌝ }
+{
+    and(t.reference == reference, no(held_since(t, hold) == 0))
+}
+
+pub fn instruction_meets(t: Kept, q: InstructionAsk) -> bool
+    ensures { λ r. ⌜ r ≡ instructionMeets q (instructionOf t) ⌝ }
+{
+    match q {
+        InstructionAsk::Any => true,
+        InstructionAsk::Named(reference) => t.reference == reference,
+        InstructionAsk::Held(reference, hold) => is_held(t, reference, hold),
     }
 }

@@ -5,9 +5,10 @@ ghost use Prim.Native.Nat.{_+_};
 ghost use lib.ListN.{set, getD};
 ghost use mathlib.Core.List.{[], _∷_};
 ghost use Rattle.tables.specs.Bytes.{one, two, three, four, digits, bytesOf, puts};
-ghost use Rattle.places.specs.Layout.{putType, putRule, putRow, putPeriod};
+ghost use Rattle.places.specs.Layout.{putType, putRule, putRow, putPeriod, putInstruction};
 use basics::low;
 use basics::wide;
+use places::Kept;
 use places::Period;
 use places::RestrictionType;
 use places::Row;
@@ -148,4 +149,117 @@ pub fn put_period(b: &mut [u8], i: u16, r: Period)
     put_three(b, at, 2, r.number);
     put_two(b, at, 5, r.code);
     put_days(b, at, 7, r.first, r.last);
+}
+
+// Csd, reference, object.
+fn put_csd(b: &mut [u8], at: u32, r: Kept)
+    ensures { λ _. ⌜ now (b .exit) ≡ puts (now (b .entry)) at 0 (bytesOf (one ∷ two ∷ one ∷ []) ((r .csd) ∷ (r .reference) ∷ (r .object) ∷ [])) ⌝ }
+{
+    put_one(b, at, 0, wide(r.csd));
+    put_two(b, at, 1, r.reference);
+    put_one(b, at, 3, wide(r.object));
+}
+
+// Role, movement, payment.
+fn put_role(b: &mut [u8], at: u32, r: Kept)
+    ensures { λ _. ⌜ now (b .exit) ≡ puts (now (b .entry)) at 4 (bytesOf (one ∷ one ∷ one ∷ []) ((r .role) ∷ (r .movement) ∷ (r .payment) ∷ [])) ⌝ }
+{
+    put_one(b, at, 4, r.role);
+    put_one(b, at, 5, r.movement);
+    put_one(b, at, 6, r.payment);
+}
+
+// Transaction, currency, party.
+fn put_transaction(b: &mut [u8], at: u32, r: Kept)
+    ensures { λ _. ⌜ now (b .exit) ≡ puts (now (b .entry)) at 7 (bytesOf (four ∷ three ∷ three ∷ []) ((r .transaction) ∷ (r .currency) ∷ (r .party) ∷ [])) ⌝ }
+{
+    put_four(b, at, 7, r.transaction);
+    put_three(b, at, 11, r.currency);
+    put_three(b, at, 14, r.party);
+}
+
+// Account, security, validating.
+fn put_account(b: &mut [u8], at: u32, r: Kept)
+    ensures { λ _. ⌜ now (b .exit) ≡ puts (now (b .entry)) at 17 (bytesOf (three ∷ three ∷ four ∷ []) ((r .account) ∷ (r .security) ∷ (r .validating) ∷ [])) ⌝ }
+{
+    put_three(b, at, 17, r.account);
+    put_three(b, at, 20, r.security);
+    put_four(b, at, 23, r.validating);
+}
+
+// Holding.
+fn put_holding(b: &mut [u8], at: u32, r: Kept)
+    ensures { λ _. ⌜ now (b .exit) ≡ puts (now (b .entry)) at 27 (bytesOf (four ∷ []) ((r .holding) ∷ [])) ⌝ }
+{
+    put_four(b, at, 27, r.holding);
+}
+
+// Bytes 0 to 3 of remembered.
+fn put_remembered_0(b: &mut [u8], at: u32, r: Kept)
+    ensures { λ _. ⌜ now (b .exit) ≡ puts (now (b .entry)) at 31 (bytesOf (one ∷ one ∷ one ∷ one ∷ []) ((getD (r .remembered) 0 0) ∷ (getD (r .remembered) 1 0) ∷ (getD (r .remembered) 2 0) ∷ (getD (r .remembered) 3 0) ∷ [])) ⌝ }
+{
+    let v = r.remembered;
+    put_one(b, at, 31, wide(v[0]));
+    put_one(b, at, 32, wide(v[1]));
+    put_one(b, at, 33, wide(v[2]));
+    put_one(b, at, 34, wide(v[3]));
+}
+
+// Bytes 4 to 7 of remembered.
+fn put_remembered_4(b: &mut [u8], at: u32, r: Kept)
+    ensures { λ _. ⌜ now (b .exit) ≡ puts (now (b .entry)) at 35 (bytesOf (one ∷ one ∷ one ∷ one ∷ []) ((getD (r .remembered) 4 0) ∷ (getD (r .remembered) 5 0) ∷ (getD (r .remembered) 6 0) ∷ (getD (r .remembered) 7 0) ∷ [])) ⌝ }
+{
+    let v = r.remembered;
+    put_one(b, at, 35, wide(v[4]));
+    put_one(b, at, 36, wide(v[5]));
+    put_one(b, at, 37, wide(v[6]));
+    put_one(b, at, 38, wide(v[7]));
+}
+
+// Bytes 8 to 11 of remembered.
+fn put_remembered_8(b: &mut [u8], at: u32, r: Kept)
+    ensures { λ _. ⌜ now (b .exit) ≡ puts (now (b .entry)) at 39 (bytesOf (one ∷ one ∷ one ∷ one ∷ []) ((getD (r .remembered) 8 0) ∷ (getD (r .remembered) 9 0) ∷ (getD (r .remembered) 10 0) ∷ (getD (r .remembered) 11 0) ∷ [])) ⌝ }
+{
+    let v = r.remembered;
+    put_one(b, at, 39, wide(v[8]));
+    put_one(b, at, 40, wide(v[9]));
+    put_one(b, at, 41, wide(v[10]));
+    put_one(b, at, 42, wide(v[11]));
+}
+
+// Bytes 12 to 12 of remembered.
+fn put_remembered_12(b: &mut [u8], at: u32, r: Kept)
+    ensures { λ _. ⌜ now (b .exit) ≡ puts (now (b .entry)) at 43 (bytesOf (one ∷ []) ((getD (r .remembered) 12 0) ∷ [])) ⌝ }
+{
+    let v = r.remembered;
+    put_one(b, at, 43, wide(v[12]));
+}
+
+// The 13 bytes of remembered.
+fn put_remembered(b: &mut [u8], at: u32, r: Kept)
+    ensures { λ _. ⌜ now (b .exit) ≡ puts (now (b .entry)) at 31 (bytesOf (one ∷ one ∷ one ∷ one ∷ one ∷ one ∷ one ∷ one ∷ one ∷ one ∷ one ∷ one ∷ one ∷ []) ((getD (r .remembered) 0 0) ∷ (getD (r .remembered) 1 0) ∷ (getD (r .remembered) 2 0) ∷ (getD (r .remembered) 3 0) ∷ (getD (r .remembered) 4 0) ∷ (getD (r .remembered) 5 0) ∷ (getD (r .remembered) 6 0) ∷ (getD (r .remembered) 7 0) ∷ (getD (r .remembered) 8 0) ∷ (getD (r .remembered) 9 0) ∷ (getD (r .remembered) 10 0) ∷ (getD (r .remembered) 11 0) ∷ (getD (r .remembered) 12 0) ∷ [])) ⌝ }
+{
+    put_remembered_0(b, at, r);
+    put_remembered_4(b, at, r);
+    put_remembered_8(b, at, r);
+    put_remembered_12(b, at, r);
+}
+
+// What a place holds before remembered.
+fn put_instruction_fields(b: &mut [u8], at: u32, r: Kept)
+    ensures { λ _. ⌜ now (b .exit) ≡ puts (now (b .entry)) at 0 (bytesOf (one ∷ two ∷ one ∷ one ∷ one ∷ one ∷ four ∷ three ∷ three ∷ three ∷ three ∷ four ∷ four ∷ []) ((r .csd) ∷ (r .reference) ∷ (r .object) ∷ (r .role) ∷ (r .movement) ∷ (r .payment) ∷ (r .transaction) ∷ (r .currency) ∷ (r .party) ∷ (r .account) ∷ (r .security) ∷ (r .validating) ∷ (r .holding) ∷ [])) ⌝ }
+{
+    put_csd(b, at, r);
+    put_role(b, at, r);
+    put_transaction(b, at, r);
+    put_account(b, at, r);
+    put_holding(b, at, r);
+}
+
+pub fn put_instruction(b: &mut [u8], i: u16, r: Kept)
+    ensures { λ _. ⌜ now (b .exit) ≡ putInstruction (now (b .entry)) i r ⌝ }
+{
+    let at = address(Kept::START, Kept::WIDTH, i);
+    put_instruction_fields(b, at, r);
+    put_remembered(b, at, r);
 }

@@ -120,12 +120,22 @@ module _ {R : Type 0} where
       (λ e. rw e (has-cons p x (keep q l) ∙ rw (h x e) (has-none p q l h)))
       (λ e. rw e (has-none p q l h))
 
+  pub least-no : (f : R → ℕ) (p r : R → Bool) (l : List R) → every r l ≡ true → ((x : R) → r x ≡ true → p x ≡ false)
+      → least f p l ≡ 0
+  unfolding least every
+  least-no f p r [] e h = refl
+  least-no f p r (x ∷ l) e h =
+      let b = both (r x) (every r l) e in
+      rw (h x (b .0), least-no f p r l (b .1) h)
+
+  every-kept : (q : R → Bool) (l : List R) → every q (keep q l) ≡ true
+  unfolding every keep
+  every-kept q [] = refl
+  every-kept q (x ∷ l) = cases (q x) (λ e. rw (e, every-kept q l, e)) (λ e. rw (e, every-kept q l))
+
   pub least-none : (f : R → ℕ) (p q : R → Bool) (l : List R) → ((x : R) → q x ≡ true → p x ≡ false)
       → least f p (keep q l) ≡ 0
-  unfolding least keep
-  least-none f p q [] h = refl
-  least-none f p q (x ∷ l) h =
-      cases (q x) (λ e. rw (e, h x e, least-none f p q l h) refl) (λ e. rw e (least-none f p q l h))
+  least-none f p q l = least-no f p q (keep q l) (every-kept q l)
 
   module _ (f : R → ℕ) (p : R → Bool) (l : List R) where
     -- a record that passes is at least the least, which then is there

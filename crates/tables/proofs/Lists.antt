@@ -4,11 +4,12 @@ use Prim.Native.Nat.{ℕ, zero, suc, _+_, _≤_, _<_, min}
 use mathlib.Core.Path.{_≡_, refl, ap, sym, _∙_}
 use mathlib.Core.Bool.{Bool, true, false, _&&_, _||_, not, cond, or-true, false≢true}
 use mathlib.Core.List.{List, [], _∷_}
+use mathlib.Core.Option.{Option, some, none}
 use native.Mathlib.Omega.{arith}
 use lib.Dec.{ltb, leb}
 use lib.ListN.{length}
 use borrow.Author.Tests.{ltb-true, ltb-false, lt-ltb, leb-true, leb-false, le-leb, lt-leb}
-use Rattle.tables.specs.Count.{bit, lesser, count, has, every, keep, alter, without, change, least, Same}
+use Rattle.tables.specs.Count.{bit, lesser, count, has, every, keep, alter, without, change, orNone, sift, least, Same}
 use Rattle.tables.proofs.Counts.{cases, both, agree, bit-none, count-keep, count-alter, count-length, every-count}
 
 or-parted : (a b c d : Bool) → ((a || b) || (c || d)) ≡ ((a || c) || (b || d))
@@ -75,6 +76,11 @@ module _ {R : Type 0} where
   has-either p q (x ∷ l) =
       rw (has-cons (λ x. p x || q x) x l, has-cons p x l, has-cons q x l, has-either p q l)
       (or-parted (p x) (q x) (has p l) (has q l))
+
+  pub has-never : (l : List R) → has (λ x. false) l ≡ false
+  unfolding has count
+  has-never [] = refl
+  has-never (x ∷ l) = has-cons (λ x. false) x l ∙ has-never l
 
   pub count-no : (p : R → Bool) (x : R) (l : List R) → p x ≡ false → count p (x ∷ l) ≡ count p l
   unfolding count
@@ -210,6 +216,9 @@ module _ {R : Type 0} where
   unfolding count
   same-cons x l m s p = ap (λ n. n + bit (p x)) (s p)
 
+  pub same-keep : (q : R → Bool) (l m : List R) → Same l m → Same (keep q l) (keep q m)
+  same-keep q l m s p = count-keep p q l ∙ s (λ x. q x && p x) ∙ sym (count-keep p q m)
+
   pub same-without : (q : R → Bool) (l m : List R) → Same l m → Same (without q l) (without q m)
   unfolding without
   same-without q l m s p = simp (count-keep, s)
@@ -217,6 +226,59 @@ module _ {R : Type 0} where
   pub same-change : (q : R → Bool) (g : R → R) (l m : List R) → Same l m → Same (change q g l) (change q g m)
   unfolding change
   same-change q g l m s p = simp (count-alter, s)
+
+  -- whether one is left that passes
+  abbrev pub leftBy : (R → Bool) → Option R → Bool
+  leftBy p none = false
+  leftBy p (some x) = p x
+
+  count-left : (p : R → Bool) (o : Option R) (l : List R) → count p (orNone o l) ≡ count p l + bit (leftBy p o)
+  unfolding count
+  count-left p none l = omega arith
+  count-left p (some x) l = refl
+
+  pub count-sift : (p : R → Bool) (g : R → Option R) (l : List R) → count p (sift g l) ≡ count (λ x. leftBy p (g x)) l
+  unfolding count sift
+  count-sift p g [] = refl
+  count-sift p g (x ∷ l) = count-left p (g x) (sift g l) ∙ rw (count-sift p g l)
+
+  -- one that is left and passes
+  pub left-some : {G : Type 0} (p : R → Bool) (o : Option R) → leftBy p o ≡ true
+      → ((x : R) → o ≡ some x → p x ≡ true → G) → G
+  left-some p none e k = absurd (false≢true e)
+  left-some p (some x) e k = k x refl e
+
+  -- whether what is left, if anything, passes
+  abbrev pub everyLeft : (R → Bool) → Option R → Bool
+  everyLeft p none = true
+  everyLeft p (some x) = p x
+
+  pub every-left : (p : R → Bool) (o : Option R) → ((x : R) → o ≡ some x → p x ≡ true) → everyLeft p o ≡ true
+  every-left p none h = refl
+  every-left p (some x) h = h x refl
+
+  every-one : (p : R → Bool) (o : Option R) (l : List R) → every p (orNone o l) ≡ (everyLeft p o && every p l)
+  unfolding every
+  every-one p none l = refl
+  every-one p (some x) l = refl
+
+  pub every-sift : (p : R → Bool) (g : R → Option R) (l : List R)
+      → every p (sift g l) ≡ every (λ x. everyLeft p (g x)) l
+  unfolding every sift
+  every-sift p g [] = refl
+  every-sift p g (x ∷ l) = every-one p (g x) (sift g l) ∙ rw (every-sift p g l)
+
+  length-one : (o : Option R) (l : List R) → length (orNone o l) ≤ suc (length l)
+  length-one none l = omega arith
+  length-one (some x) l = omega arith
+
+  pub length-sift : (g : R → Option R) (l : List R) → length (sift g l) ≤ length l
+  unfolding sift
+  length-sift g [] = omega arith
+  length-sift g (x ∷ l) = omega (arith, length-one (g x) (sift g l), length-sift g l)
+
+  pub same-sift : (g : R → Option R) (l m : List R) → Same l m → Same (sift g l) (sift g m)
+  same-sift g l m s p = count-sift p g l ∙ s (λ x. leftBy p (g x)) ∙ sym (count-sift p g m)
 
   pub same-every : (p : R → Bool) (l m : List R) → Same l m → every p l ≡ every p m
   same-every p l m s = rw (every-count p l, every-count p m, s (λ x. not (p x)))

@@ -4,6 +4,7 @@ use Prim.Native.Nat.{ℕ, zero, suc, _+_, min}
 use mathlib.Core.Path.{_≡_}
 use mathlib.Core.Bool.{Bool, true, false, _&&_, not, cond}
 use mathlib.Core.List.{List, [], _∷_}
+use mathlib.Core.Option.{Option, some, none}
 use lib.Dec.{eqb, ltb}
 
 abbrev pub bit : Bool → ℕ
@@ -17,6 +18,11 @@ lesser (suc m) zero = suc m
 lesser (suc m) (suc n) = suc (min m n)
 
 -- ---- lists
+
+-- the list with one more, if there is one
+abbrev pub orNone : {R : Type 0} → Option R → List R → List R
+orNone none l = l
+orNone (some x) l = x ∷ l
 
 module _ {R : Type 0} where
   -- how many of the list pass the test
@@ -53,6 +59,11 @@ module _ {R : Type 0} where
   unfoldable pub change : (R → Bool) → (R → R) → List R → List R
   unfolding alter
   change p g = alter (λ x. cond (p x) (g x) x)
+
+  -- the list with g done to each, without those of which it leaves nothing
+  unfoldable pub sift : (R → Option R) → List R → List R
+  sift g [] = []
+  sift g (x ∷ l) = orNone (g x) (sift g l)
 
   -- the least number that f gives to one of the list that passes the test; 0 where none does
   unfoldable pub least : (R → ℕ) → (R → Bool) → List R → ℕ

@@ -4,13 +4,14 @@ use mathlib.Core.Path.{_≡_}
 use native.Mathlib.Omega.{arith}
 use lib.ListN.{length}
 use borrow.Author.Needs.{needs}
+use Rattle.tables.specs.Keyed.{marked}
 use Rattle.memory.specs.Remembered.{withTypesTo}
 use Rattle.memory.proofs.Bits.{types-none, types-more, types-end}
 use Rattle.memory.proofs.with_types.Statement.{statement}
 use Rattle.memory.proofs.with_types.Tie as tie
 
 abbrev Inv-loop : tie.InvT-loop
-Inv-loop marks r₀ n₀ r n = (n ≤ 99) × (length r ≡ 13) × (r ≡ withTypesTo n r₀ marks)
+Inv-loop marks r₀ n₀ r n = (n ≤ 99) × (length r ≡ 13) × (r ≡ withTypesTo n r₀ (marked marks))
 
 abbrev μ-loop : tie.MeasureT-loop
 μ-loop marks r₀ n₀ r n = 99 - n
