@@ -8,8 +8,8 @@ use lib.Dec.{eqb}
 use borrow.Author.Tests.{eqb-true, eq-eqb}
 use Rattle.tables.specs.Count.{has, keep, least}
 use Rattle.tables.proofs.Counts.{cases, both, ands}
-use Rattle.tables.proofs.Lists.{every-any}
-use Rattle.tables.proofs.Least.{has-under, has-kept, least-none, has-none, keep-any}
+use Rattle.tables.proofs.Lists.{every-any, has-among, keep-any}
+use Rattle.tables.proofs.Least.{has-under, least-none, has-none}
 use Rattle.meaning.specs.Records.{TypeRecord, Rule, Kept, Book, Question, rejection, validationHold, partyHold, positive, negative}
 use Rattle.meaning.specs.Judging.{covers, matches, tests, ruleApplies, applies, named, decided, verdict, judged, nobody}
 use Rattle.meaning.specs.Scope.{Scope, whole, scoped, isNew, onlyNew}
@@ -170,7 +170,7 @@ module _ (b : Book) (day : ℕ) (k : Kept) (none-new : has (metAnew b day k) (b 
       (λ e.
       absurd (false≢true (sym none-new
       ∙ has-under (λ r. true) _ (metAnew b day k) (b .rules) (every-any (b .rules))
-      (sym (has-kept (ruleApplies (newBook types) (asking day k) type sign) (isNew b day) (b .rules)) ∙ e)
+      (sym (has-among (ruleApplies (newBook types) (asking day k) type sign) (isNew b day) (b .rules)) ∙ e)
       (λ r z h.
       without-key (isNew b day r) (eqb (r .type) type) (eqb (r .object) (k .object)) (eqb (r .sign) sign)
       (covers (r .first) (r .last) day) (matches b (asking day k) r) h))))

@@ -100,17 +100,6 @@ module _ {R : Type 0} where
       (λ e. rw (h x e, least-keep f p q l h))
       (λ e. cases (q x) (λ z. rw (z, least-keep f p q l h)) (λ z. rw (z, e, least-keep f p q l h)))
 
-  -- one that is kept passes exactly if one passes both
-  pub has-kept : (p q : R → Bool) (l : List R) → has p (keep q l) ≡ has (λ x. q x && p x) l
-  unfolding has
-  has-kept p q l = ap (ltb 0) (count-keep p q l)
-
-  -- nothing is taken out where all pass
-  pub keep-any : (l : List R) → keep (λ x. true) l ≡ l
-  unfolding keep
-  keep-any [] = refl
-  keep-any (x ∷ l) = rw (keep-any l) refl
-
   -- where none that is kept passes, there is none and no least
   pub has-none : (p q : R → Bool) (l : List R) → ((x : R) → q x ≡ true → p x ≡ false) → has p (keep q l) ≡ false
   unfolding has keep count

@@ -1,4 +1,5 @@
--- `newrules::has_begun` meets its contract. Assumes nothing.
+-- `newrules::has_begun` meets its contract; facts are named, so that a wrong one is refused for certain. Assumes
+-- nothing.
 use borrow.Author.Needs.{needs}
 use Rattle.newrules.proofs.NewReturns.{begun-by}
 use Rattle.newrules.proofs.has_begun.Statement.{statement}
@@ -9,4 +10,4 @@ has-begun-spec =
     tie.close
     (tie.spec
     (λ c κs. search needs)
-    (λ c. search begun-by))
+    (λ c. let asked = c .before .before .args in begun-by (asked .q) (asked .t) _ (c .and .ensures)))

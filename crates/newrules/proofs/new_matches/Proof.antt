@@ -1,4 +1,5 @@
--- `newrules::new_matches` meets its contract. Assumes nothing.
+-- `newrules::new_matches` meets its contract; facts are named, so that a wrong one is refused for certain. Assumes
+-- nothing.
 use borrow.Author.Needs.{needs}
 use Rattle.newrules.proofs.NewReturns.{new-matches-by}
 use Rattle.newrules.proofs.new_matches.Statement.{statement}
@@ -13,4 +14,13 @@ new-matches-spec =
     (λ c κs. search needs)
     (λ c κs. search needs)
     (λ c κs. search needs)
-    (λ c. search new-matches-by))
+    (λ c.
+    let new = c .before .before in
+    let matched = new .before .before .before in
+    let asked = matched .before .before .before .args in
+    new-matches-by (asked .q) _ _ (asked .r) _ _ _ _ _
+    (c .and2 .ensures)
+    (c .before .and .ensures)
+    (new .is-new .ensures)
+    (matched .is-marked .ensures)
+    (matched .before .rule-key .ensures)))
