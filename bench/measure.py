@@ -1,7 +1,8 @@
 #!/usr/bin/env python3
 """measure.py times|batches|instructions WORK: what bench/run prints. WORK is a folder for temporary files.
 
-The cost of a line is the cost of a book and N lines, less the cost of the book alone, divided by N.
+The cost of a line is the cost of a book and N lines, less the cost of the book alone, divided by N. W is measured with
+PENDING=1 in the environment only.
 """
 import os
 import re
@@ -9,6 +10,7 @@ import subprocess
 import sys
 
 import book
+from pending import PENDING
 
 RUNS = 5            # runs of each kind; the quickest counts
 SUBMIT_ROOM = 600000  # precheck_main reads no more
@@ -48,7 +50,7 @@ def block_of(which, kind):
 
 def kinds_of(which):
     """The kinds of lines measured over that book: W only where instructions are kept."""
-    return [kind for kind in KINDS if kind != "starts" or which == "full"]
+    return [kind for kind in KINDS if kind != "starts" or PENDING and which == "full"]
 
 
 def first_lines(block, count):
@@ -128,9 +130,10 @@ def measured_lines(program, base, alone, block, budget, work):
 
 def times(work):
     # Most of the budget is left to what the slowest book takes by itself.
-    budget = float(os.environ.get("BUDGET", "120")) / 6 / (RUNS * 20)
+    budget = float(os.environ.get("BUDGET", "120")) / 6 / (RUNS * (20 if PENDING else 16))
+    last = f" {'W / question':>13}" if PENDING else ""
     print(f"{'book':<13}{'lines':<11}{'program':<30}{'N':>7} {'us a line':>10} {'lines a second':>15}"
-          f" {'ours / flat':>12} {'W / question':>13}", flush=True)
+          f" {'ours / flat':>12}{last}", flush=True)
     result, counts = {}, {}
     for which in BOOKS:
         base = text_of(book.book_lines(which))
@@ -160,8 +163,9 @@ def times(work):
                 cost = result[which, kind, program]
                 ratio = f"{cost / result[which, kind, FLAT]:.2f}" if program in (SUBMIT, STEP) else ""
                 beside = f"{cost / result[which, 'questions', program]:>14.1f}" if kind == "starts" else ""
-                print(f"{BOOKS[which]:<13}{kind:<11}{NAMES[program]:<30}{counts[which, kind, program]:>7} {cost * 1e6:>10.2f}"
-                      f" {1 / cost if cost > 0 else 0:>15,.0f} {ratio:>12}{beside}".rstrip(), flush=True)
+                row = (f"{BOOKS[which]:<13}{kind:<11}{NAMES[program]:<30}{counts[which, kind, program]:>7} {cost * 1e6:>10.2f}"
+                       f" {1 / cost if cost > 0 else 0:>15,.0f} {ratio:>12}{beside}")
+                print(row.rstrip() if PENDING else row, flush=True)
 
 
 def in_batches(lines):
