@@ -3,6 +3,7 @@
 
 Each depository's 128 rows share a bucket and differ in their last values only, its 128 periods are of one number and
 attribute and share no day, and as many rules as can share one bucket do; the rows are of the rule that is found last.
+With PENDING=1 in the environment (request d) each depository keeps 32 instructions.
 crowded.py measure PROGRAM: microseconds that PROGRAM takes for a line over it, beside the book of bench/book.py.
 """
 import os
@@ -11,9 +12,10 @@ import subprocess
 import sys
 
 import book
+from pending import PENDING
 
 DAY, FIRST, LAST = 20260101, 20270101, 20271231
-CSDS, TYPES, RULES, ROWS, PERIODS = range(1, 9), 16, 64, 128, 128
+CSDS, TYPES, RULES, ROWS, PERIODS, KEPT = range(1, 9), 16, 64, 128, 128, 32 if PENDING else 0
 CRITERIA = 2 ** 7 + 2 ** 8 + 2 ** 9
 
 
@@ -95,6 +97,7 @@ def book_lines():
         if csd in held:
             lines += rows_of(csd, *held[csd][-1])
         lines += [f"A,{csd},{DAY},P,1,101,{day},{day}" for day, _ in zip(days(), range(PERIODS))]
+        lines += [f"S,{csd},{FIRST},{n},1,2,DELI,FREE,,EUR,1,1,1" for n in range(1, KEPT + 1)]
     return lines, len(rules)
 
 
@@ -114,7 +117,7 @@ def measure(program):
         for _ in range(5):
             alone, answers = seconds(program, base)
             more, _ = seconds(program, base + ["X"] * noise)
-            if any(answer != b"K" for answer in answers):
+            if any(answer.startswith(b"F") for answer in answers):
                 sys.exit(f"{name}: a line is not taken")
             cost = (more - alone) / noise * 1e6
             best = cost if best is None else min(best, cost)

@@ -15,9 +15,16 @@ Kinds of lines and their share:
 One file in three lacks the final byte 10. Each stretch of 400 lines has a profile. Half of the stretches are mixed: two
 of the eight depositories get three quarters of the lines, all eight share the rest. The other half fill one of the four
 quotas of a single depository, which gets 95 % of the lines, so that refusal 10 occurs.
+
+With PENDING=1 in the environment (request d) S, W and L are drawn too, and refusals 14 and 15 occur. W's days are
+mostly days on which rules are new, so that holds are put on, types remembered and instructions cancelled; L mostly
+names a kept instruction. Of twelve stretches five are then mixed and five fill one of the five quotas. In two, the
+rules of a single depository have one criterion each and become new on many days, and half of the lines are S, W and L.
 """
 import random
 import sys
+
+from pending import PENDING
 
 # Share of each letter, in hundredths. A filling profile draws its keys from all numbers.
 PROFILES = {
@@ -27,12 +34,27 @@ PROFILES = {
     "rows":    {"T": 2, "E": 1, "R": 4, "O": 2, "D": 1, "M": 75, "N": 2, "A": 4, "Z": 1, "Q": 8},
     "periods": {"T": 2, "E": 1, "R": 3, "O": 1, "D": 1, "M": 6, "N": 1, "A": 74, "Z": 3, "Q": 8},
 }
+STRETCHES = ["mixed"] * 4 + ["types", "rules", "rows", "periods"]  # the profiles, as often as they are drawn
+UNKNOWN = ["", "B", "X", "K", "F", "V", "TT", "QT", "T1", "1", "0", "P", "S"]  # no letters of lines
+if PENDING:
+    PROFILES = {
+        "mixed":   dict(T=7, E=2, R=10, O=3, D=2, M=16, N=3, A=9, Z=3, Q=21, S=13, W=5, L=6),
+        "types":   dict(T=50, E=7, R=8, O=2, D=2, M=8, N=1, A=5, Z=1, Q=9, S=4, W=2, L=1),
+        "rules":   dict(T=3, E=1, R=65, O=3, D=3, M=6, N=1, A=3, Z=1, Q=7, S=4, W=2, L=1),
+        "rows":    dict(T=2, E=1, R=4, O=2, D=1, M=74, N=2, A=3, Z=1, Q=4, S=3, W=2, L=1),
+        "periods": dict(T=2, E=1, R=3, O=1, D=1, M=6, N=1, A=73, Z=3, Q=4, S=3, W=1, L=1),
+        "days":    dict(T=4, E=1, R=13, O=1, D=1, M=15, N=2, A=5, Z=1, Q=4, S=16, W=12, L=25),
+        "kept":    dict(T=5, E=1, R=9, O=1, D=1, M=13, N=1, A=6, Z=1, Q=3, S=42, W=7, L=10),
+    }
+    STRETCHES = ["mixed"] * 5 + ["days"] * 2 + ["types", "rules", "rows", "periods", "kept"]
+    UNKNOWN = ["", "B", "X", "K", "F", "V", "TT", "QT", "SW", "T1", "1", "0", "P"]
 STRETCH = 400
 
 EARLY = ["20200101", "20200226", "20200227", "20200228"]
 FIRSTS = ["20200228", "20200229", "20200229", "20200229", "20200301", "20200301", "20200302", "20200315", "20210228"]
 LASTS = ["20200229", "20200301", "20200315", "20200331", "20210228", "20210301", "20240229", "20991231", "20991231", "20991231"]
 ASKED = ["20200228", "20200229", "20200301", "20200302", "20200315", "20200315", "20200316", "20200331", "20200401", "20210228", "20210301"]
+ENTERED = ["20200227", "20200228", "20200229", "20200301", "20200302", "20200315", "20200315", "20200316"]
 ODD_DAYS = ["20000101", "20000229", "20960229", "20991230", "20991231", "20161231", "20201231", "20210101"]
 BAD_DAYS = ["20170229", "20210229", "20200230", "20200431", "20201301", "20200001", "20200100", "19991231", "21000101",
             "2020031", "202003011", "2020030A", "00000000", "20200332", "99999999", "21000229"]
@@ -42,6 +64,7 @@ TRANSACTIONS, CURRENCIES = ["CORP", "TRAD"], ["EUR", "HUF"]
 PARTIES, ACCOUNTS, SECURITIES = [10, 11, 999999], [20, 21, 1], [30, 31, 7]
 NUMBERS = {"P": PARTIES, "A": ACCOUNTS, "S": SECURITIES}
 CODES = {"P": [101, 102, 111], "A": [201, 202, 9999], "S": [301, 302, 310]}
+ONE_CRITERION = [1, 2, 4, 8, 16, 32, 512, 1, 2, 4, 8, 64, 128, 256]
 CRITERIA = [64, 64, 128, 128, 256, 1, 2, 4, 6, 8, 8, 16, 32, 512, 3, 5, 40, 72, 130, 136, 448, 1023]
 WRONG = ["", "0", "1", "2", "3", "4", "8", "9", "00", "01", "05", "99", "100", "101", "199", "200", "300", "1000", "1023", "1024", "9900",
          "9999", "10000", "10001", "999999", "1000000", "0999999", "18446744073709551617", "4294967297", "P", "N", "A", "S", "X", "Y", "YN", "PP",
@@ -52,13 +75,14 @@ class Lines:
     def __init__(self, seed):
         self.r = random.Random(seed)
         # What the generator believes the book holds; it is only a guide, and need not be right.
-        self.types, self.rules, self.rows, self.periods = {}, {}, {}, {}
+        self.types, self.rules, self.rows, self.periods, self.kept = {}, {}, {}, {}, {}
+        self.released = [0, 0]  # reference and hold of the last L
         self.turn()
 
     def turn(self):
         """A new stretch."""
         r = self.r
-        self.profile = r.choice(["mixed"] * 4 + ["types", "rules", "rows", "periods"])
+        self.profile = r.choice(STRETCHES)
         self.wide = self.profile != "mixed"
         self.main = [r.randint(1, 8)] if self.wide else r.sample(range(1, 9), 2)
         shares = PROFILES[self.profile]
@@ -93,7 +117,8 @@ class Lines:
 
     def rule_key(self, types):
         kind = self.known(types) or self.type_key()
-        return kind + (self.number([1, 2, 3, 99], self.profile == "rules"),)
+        usual = range(1, 10) if self.profile == "days" else [1, 2, 3, 99]
+        return kind + (self.number(usual, self.profile == "rules"),)
 
     def row_values(self, criteria):
         r, far = self.r, self.profile == "rows"
@@ -111,10 +136,18 @@ class Lines:
         r = self.r
         letter = r.choices(self.letters, self.shares)[0]
         csd = r.choice(self.main) if self.chance(95 if self.wide else 75) else r.randint(1, 8)
-        if letter == "Q" and not self.rows.get(csd) and self.chance(80):
-            csd = r.choice([c for c in self.rows if self.rows[c]] or [csd])
+        # Q and S mostly name a depository that may have rows, W one that keeps instructions, L one with a hold on.
+        wanted = {"Q": self.rows, "S": self.rows, "W": self.kept}.get(letter)
+        if letter == "L":
+            wanted = {c: [n for n in kept if kept[n][2]] for c, kept in self.kept.items()}
+        if wanted is not None and not wanted.get(csd) and self.chance(80):
+            others = [c for c in wanted if wanted[c]]
+            if letter in "WL" and not others:
+                letter = "S"
+            csd = r.choice(others or [csd])
         types, rules = self.types.setdefault(csd, {}), self.rules.setdefault(csd, {})
         rows, periods = self.rows.setdefault(csd, {}), self.periods.setdefault(csd, {})
+        kept = self.kept.setdefault(csd, {})
         # A row needs a rule and a rule a type: mostly make what is missing first.
         if letter in "MNOD" and not rules and self.chance(80):
             letter = "R"
@@ -128,7 +161,7 @@ class Lines:
             processing = r.choice([1, 2, 3]) if key[1] == 1 or self.chance(2) else r.choice([1, 2])
             rest = [*key, processing, *span]
             if day < span[0] <= span[1]:
-                note = lambda: types.setdefault(key, span)
+                note = lambda: types.setdefault(key, (*span, processing))
         elif letter == "E":
             day = self.day(FIRSTS)
             key, last = self.known(types) or self.type_key(), self.day(LASTS)
@@ -136,7 +169,7 @@ class Lines:
 
             def note():
                 if key in types and day <= last and types[key][0] <= last <= types[key][1]:
-                    types[key] = (types[key][0], last)
+                    types[key] = (types[key][0], last, types[key][2])
         elif letter == "R":
             key = self.rule_key(types)
             # Mostly within the type's period, as far as it is known.
@@ -144,10 +177,13 @@ class Lines:
             criteria = r.choice(CRITERIA) if self.chance(85) else r.randint(1, 1023)
             if self.profile == "rows":
                 criteria |= 8
-            rest = [*key, "N" if self.chance(25) else "P", criteria, *span]
+            elif self.profile == "days" and self.chance(90):
+                criteria = r.choice(ONE_CRITERION)
+            sign = "N" if self.chance(25) else "P"
+            rest = [*key, sign, criteria, *span]
             held = types.get(key[:2], ("", ""))
             if day < span[0] <= span[1] and held[0] <= span[0] and span[1] <= held[1]:
-                note = lambda: rules.setdefault(key, criteria)
+                note = lambda: rules.setdefault(key, (criteria, sign, *span))
         elif letter == "O":
             key = self.known(rules) or self.rule_key(types)
             new = key[:2] + (self.number([1, 2, 3, 4, 99], self.profile == "rules"),)
@@ -167,11 +203,11 @@ class Lines:
             row = self.known(rows) if letter == "N" or self.chance(6) else None
             if row is None:
                 key = self.known(rules) or self.rule_key(types)
-                criteria = rules.get(key) or r.choice(CRITERIA)
+                criteria = rules[key][0] if key in rules else r.choice(CRITERIA)
                 if self.chance(5):
                     criteria = r.choice([0, criteria ^ 1 << r.randint(0, 9), r.randint(0, 1023)])
                 row = (key, self.row_values(criteria))
-                if letter == "M" and criteria == rules.get(key):
+                if letter == "M" and key in rules and criteria == rules[key][0]:
                     note = lambda: rows.setdefault(row, True)
             elif letter == "N":
                 note = lambda: rows.pop(row, None)
@@ -192,28 +228,71 @@ class Lines:
                 period = (kind, r.choice(NUMBERS[kind]), r.choice(CODES[kind]), *self.span())
             day = self.day(FIRSTS)
             rest = [*period[:4], period[4] if self.chance(25) else self.day(LASTS)]
-        else:
-            rest = self.question(rows, periods)
+        elif letter == "S":
+            day = self.day(ENTERED)
+            last = 9999 if self.profile == "kept" else 60
+            free = [n for n in range(1, last + 1) if n not in kept]
+            number = r.choice(free) if free and self.chance(85) else self.known(kept) or r.choice([1, 2, 9999])
+            asked, rule = self.instruction(rows, periods)
+            rest = [number, *asked]
+            # What the rule of the row asked after does: its type's processing, its first day, whether it is in force.
+            does = [0, "", False]
+            if rule in rules and rule[:2] in types and rules[rule][1] == "P":
+                does = [types[rule[:2]][2], rules[rule][2], rules[rule][2] <= day <= rules[rule][3]]
+            if does[::2] != [1, True]:
+                note = lambda: kept.setdefault(number, does)
+        elif letter == "W":
+            firsts = [held[2] for held in rules.values()]
+            day = r.choice(firsts) if firsts and self.chance(80) else self.day(ASKED)
+            rest = []
+
+            def note():
+                for number, does in list(kept.items()):
+                    if does[:2] == [1, day]:
+                        del kept[number]
+                    elif does[1] == day:
+                        does[2] = True
+        elif letter == "L":
             day = self.day(ASKED)
+            sure = 30 if self.profile == "days" else 80
+            number = self.known([n for n in kept if kept[n][2]] if self.chance(sure) else kept) or r.randint(1, 60)
+            hold = kept[number][0] if kept.get(number, [0])[0] > 1 and self.chance(sure) else r.randint(2, 3)
+            if self.chance(30) and self.released[0] in kept:  # the other hold of the last one
+                number, hold = self.released[0], 5 - self.released[1]
+            does = kept.get(number, [0, "", False])
+            self.released = rest = [number, hold]
+
+            def note():
+                if does[0] == rest[1]:
+                    does[2] = False
+        else:
+            day = self.day(ASKED) if PENDING else None
+            rest, _ = self.instruction(rows, periods)
+            if self.chance(30):  # the two wishes
+                rest += [r.choice(["Y", "N", ""]), r.choice(["Y", "N"])]
+            day = day or self.day(ASKED)  # drawn last without PENDING
         return [letter, str(csd), day] + [str(f) for f in rest], note
 
-    def question(self, rows, periods):
-        r = self.r
+    def instruction(self, rows, periods):
+        """The nine fields from object to security, and the rule of the row asked after, None where it meets no row."""
+        r, rule = self.r, None
         kind = 1 if self.chance(70) else 2
         asked = [str(r.randint(1, 3)), r.choice(MOVEMENTS), r.choice(PAYMENTS), r.choice(TRANSACTIONS + [""]),
                  r.choice(SECURITIES), r.choice(ACCOUNTS), r.choice(PARTIES), None, None, r.choice(CURRENCIES + [""])]
         if rows and self.chance(75):  # ask after a row that may be held
-            (_, kind, _), values = self.known(rows) or r.choice(list(rows))
+            rule, values = self.known(rows) or r.choice(list(rows))
+            kind = rule[1]
             for i in (0, 1, 2, 3, 4, 5, 9):
                 asked[i] = values[i] or asked[i]
             for i, letter, place in ((6, "P", 6), (7, "A", 5), (8, "S", 4)):
                 with_code = [p[1] for p in periods if p[0] == letter and str(p[2]) == values[i]]
                 if with_code:
                     asked[place] = r.choice(with_code)
+                elif values[i]:
+                    rule = None
         if kind == 2:
             asked[1] = asked[2] = ""
-        wishes = [r.choice(["Y", "N", ""]), r.choice(["Y", "N"])] if self.chance(30) else []
-        return [kind, *asked[:4], asked[9], asked[6], asked[5], asked[4], *wishes]
+        return [kind, *asked[:4], asked[9], asked[6], asked[5], asked[4]], rule
 
     def byte(self):
         """Any byte but 10; often one that is allowed or nearly so."""
@@ -245,7 +324,7 @@ class Lines:
                 fields[i:i] = [r.choice(["", "1", fields[i]])] * r.randint(1, 3)
             return ",".join(fields).encode()
         if kind < 93:
-            fields[0] = r.choice(["", "B", "X", "K", "F", "V", "TT", "QT", "T1", "1", "0", "P", "S"])
+            fields[0] = r.choice(UNKNOWN)
             return ",".join(fields).encode()
         if kind < 96:
             noisy = bytearray(text)

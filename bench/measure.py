@@ -1,7 +1,8 @@
 #!/usr/bin/env python3
 """measure.py times|batches|instructions WORK: what bench/run prints. WORK is a folder for temporary files.
 
-The cost of a line is the cost of a book and N lines, less the cost of the book alone, divided by N.
+The cost of a line is the cost of a book and N lines, less the cost of the book alone, divided by N. W is measured with
+PENDING=1 in the environment only.
 """
 import os
 import re
@@ -9,14 +10,16 @@ import subprocess
 import sys
 
 import book
+from pending import PENDING
 
 RUNS = 5            # runs of each kind; the quickest counts
 SUBMIT_ROOM = 600000  # precheck_main reads no more
 BLOCK = 20000       # lines made; more are had by repeating them
+STARTS = 400        # W lines made
 BATCH_LINES = 64
 ANSWER_BYTES = 32   # of a line's answer in a batch's answer space
 SUBMIT, STEP, FLAT, MAPS, BATCH = "submit", "step", "flat", "maps", "batch"
-COUNTED = {SUBMIT: 200, STEP: 3200}  # lines whose instructions are counted
+COUNTED = {SUBMIT: 200, STEP: 3200}  # lines whose instructions are counted, but at most STARTS of W
 PROGRAMS = {
     SUBMIT: ["target/bin/precheck_main"],
     STEP: ["target/bin/desk"],
@@ -34,11 +37,20 @@ NAMES = {
 # Valgrind counts a repeated string instruction once for each byte. So the C library is told not to use any.
 PLAIN_COPIES = {"GLIBC_TUNABLES": "glibc.cpu.x86_rep_movsb_threshold=1000000000:glibc.cpu.x86_rep_stosb_threshold=1000000000"}
 BOOKS = {"empty": "almost empty", "full": "full"}
-KINDS = {"questions": book.questions, "edits": book.edits}
+KINDS = {"questions": book.questions, "edits": book.edits, "starts": book.starts}
 
 
 def text_of(lines):
     return "".join(line + "\n" for line in lines).encode()
+
+
+def block_of(which, kind):
+    return KINDS[kind](which, STARTS if kind == "starts" else BLOCK)
+
+
+def kinds_of(which):
+    """The kinds of lines measured over that book: W only where instructions are kept."""
+    return [kind for kind in KINDS if kind != "starts" or PENDING and which == "full"]
 
 
 def first_lines(block, count):
@@ -66,16 +78,27 @@ def run(program, text, work, keep=False):
 
 
 def check(which, kind, text, work):
-    """All programs answer alike, and no line is refused. Submit is checked while it is measured."""
-    wanted = None
+    """All programs answer alike, no line is refused and every S is kept. Submit is checked while it is measured."""
+    wanted, sent = None, text.split(b"\n")
     for program in (STEP, FLAT, MAPS):
         _, seen = run(program, text, work, keep=True)
         if any(answer.startswith(b"F") for answer in seen):
             sys.exit(f"{which} {kind}: {program} refuses a line")
+        if any(line.startswith(b"S") and not answer.startswith(b"V,A") for line, answer in zip(sent, seen)):
+            sys.exit(f"{which} {kind}: {program} rejects an instruction")
         if wanted is not None and seen != wanted:
             sys.exit(f"{which} {kind}: {program} answers otherwise")
         wanted = seen
     return wanted
+
+
+def check_kept(which, text, work):
+    """After these lines all instructions of the book are kept: their references are in use."""
+    again = [line for line in book.book_lines(which) if line.startswith("S")]
+    for program in (STEP, FLAT, MAPS):
+        _, seen = run(program, text + text_of(again), work, keep=True)
+        if seen[-len(again):] != [b"F,14"] * len(again):
+            sys.exit(f"{which}: {program} cancels an instruction")
 
 
 def same(seen, wanted, count):
@@ -107,13 +130,17 @@ def measured_lines(program, base, alone, block, budget, work):
 
 def times(work):
     # Most of the budget is left to what the slowest book takes by itself.
-    budget = float(os.environ.get("BUDGET", "120")) / 6 / (RUNS * 16)
-    print(f"{'book':<13}{'lines':<11}{'program':<30}{'N':>7} {'us a line':>10} {'lines a second':>15} {'ours / flat':>12}", flush=True)
+    budget = float(os.environ.get("BUDGET", "120")) / 6 / (RUNS * (20 if PENDING else 16))
+    last = f" {'W / question':>13}" if PENDING else ""
+    print(f"{'book':<13}{'lines':<11}{'program':<30}{'N':>7} {'us a line':>10} {'lines a second':>15}"
+          f" {'ours / flat':>12}{last}", flush=True)
     result, counts = {}, {}
     for which in BOOKS:
         base = text_of(book.book_lines(which))
-        blocks = {kind: make(which, BLOCK) for kind, make in KINDS.items()}
-        wanted = {kind: check(which, kind, base + text_of(blocks[kind]), work) for kind in KINDS}
+        blocks = {kind: block_of(which, kind) for kind in kinds_of(which)}
+        wanted = {kind: check(which, kind, base + text_of(block), work) for kind, block in blocks.items()}
+        if "starts" in blocks:
+            check_kept(which, base + text_of(blocks["starts"]), work)
         for program in PROGRAMS:
             alone = [run(program, base, work)[0]]
             share = budget if alone[0] < 1 else max(budget, alone[0] / 2)
@@ -124,19 +151,21 @@ def times(work):
             for turn in range(RUNS):
                 if turn:
                     alone.append(run(program, base, work)[0])
-                for kind in KINDS:
+                for kind in blocks:
                     took, seen = run(program, texts[kind], work, keep=turn == 0)
                     best[kind].append(took)
                     if turn == 0 and not same(seen, wanted[kind], texts[kind].count(b"\n")):
                         sys.exit(f"{which} {kind}: {program} answers otherwise")
-            for kind in KINDS:
+            for kind in blocks:
                 result[which, kind, program] = (min(best[kind]) - min(alone)) / counts[which, kind, program]
-        for kind in KINDS:
+        for kind in blocks:
             for program in PROGRAMS:
                 cost = result[which, kind, program]
                 ratio = f"{cost / result[which, kind, FLAT]:.2f}" if program in (SUBMIT, STEP) else ""
-                print(f"{BOOKS[which]:<13}{kind:<11}{NAMES[program]:<30}{counts[which, kind, program]:>7} {cost * 1e6:>10.2f}"
-                      f" {1 / cost if cost > 0 else 0:>15,.0f} {ratio:>12}", flush=True)
+                beside = f"{cost / result[which, 'questions', program]:>14.1f}" if kind == "starts" else ""
+                row = (f"{BOOKS[which]:<13}{kind:<11}{NAMES[program]:<30}{counts[which, kind, program]:>7} {cost * 1e6:>10.2f}"
+                       f" {1 / cost if cost > 0 else 0:>15,.0f} {ratio:>12}{beside}")
+                print(row.rstrip() if PENDING else row, flush=True)
 
 
 def in_batches(lines):
@@ -199,10 +228,11 @@ def instructions(work):
 
     for which in BOOKS:
         base = text_of(book.book_lines(which))
-        blocks = {kind: make(which, BLOCK) for kind, make in KINDS.items()}
-        for program, count in COUNTED.items():
+        blocks = {kind: block_of(which, kind) for kind in kinds_of(which)}
+        for program, most in COUNTED.items():
             alone = instructions_of(PROGRAMS[program], base, work)
             for kind, block in blocks.items():
+                count = min(most, len(block))
                 cost = instructions_of(PROGRAMS[program], base + text_of(block[:count]), work) - alone
                 print(f"{BOOKS[which]:<13}{kind:<11}{NAMES[program]:<30}{count:>7} {cost / count:>20,.0f}", flush=True)
 

@@ -1,22 +1,28 @@
 // A conventional restriction pre-check, written from document 01 and the readings of docs/DECISIONS.md alone. What
 // request b of document 02 asks was added later, by who wrote it in crates/ too: of that it is no independent witness.
-// What request c asks was added after that from the papers alone (document 02 and REQUESTS.md), by a helper of who
-// wrote it in crates/: it was told the readings and which cases to try, and has not read crates/.
+// What requests c and d ask was added after that from the papers alone (document 02 and REQUESTS.md), each by a helper
+// of who wrote it in crates/: it was told the readings and which cases to try, and has not read crates/.
+// Request d is read with PENDING=1 in the environment only, until it lands.
 // It shares no code with crates/ and nothing about it is proved. It is built by
 //     rustc -O --edition 2021 main.rs
 // and run as `conventional flat|maps < LINES`.
 //
-// flat: four fixed tables of plain structs; soundness of the whole book is checked before every line.
+// flat: five fixed tables of plain structs; soundness of the whole book is checked before every line.
 // maps: hash maps for each depository; soundness is never checked.
 
-use std::collections::{BTreeMap, HashMap, HashSet};
+use std::collections::{BTreeMap, BTreeSet, HashMap, HashSet};
 use std::io::{self, BufRead, BufReader, BufWriter, Write};
+use std::sync::LazyLock;
+
+// Whether S, W and L are read. The tests run with it on.
+static PENDING: LazyLock<bool> = LazyLock::new(|| cfg!(test) || std::env::var("PENDING").as_deref() == Ok("1"));
 
 const CSDS: usize = 8;
 const TYPE_QUOTA: usize = 16;
 const RULE_QUOTA: usize = 64;
 const ROW_QUOTA: usize = 128;
 const PERIOD_QUOTA: usize = 128;
+const PENDING_QUOTA: usize = 32;
 
 const PARTY: u8 = 1;
 const ACCOUNT: u8 = 2;
@@ -72,6 +78,31 @@ struct Period {
     last: u32,
 }
 
+// Numbers of types, each its bit.
+type Numbers = u128;
+
+const TYPE_NUMBERS: Numbers = (1 << 100) - 2;
+
+// A kept instruction. A field that is empty is 0.
+#[derive(Clone, Copy, Default, PartialEq, Eq)]
+struct Pending {
+    csd: u8,
+    reference: u16,
+    object: u8,
+    party_type: u8,
+    movement: u8,
+    payment: u8,
+    transaction: u32,
+    currency: u32,
+    party: u32,
+    account: u32,
+    security: u32,
+    // The days on which validation hold and party hold were put on, 0 for a hold that is off.
+    holds: [u32; 2],
+    // The types of which a negative rule matched at S or at a W.
+    remembered: Numbers,
+}
+
 // What a rule is known by, without the depository.
 #[derive(Clone, Copy)]
 struct RuleKey {
@@ -80,6 +111,7 @@ struct RuleKey {
     sequence: u8,
 }
 
+#[derive(Clone, Copy)]
 struct Question {
     csd: u8,
     day: u32,
@@ -105,6 +137,9 @@ enum Line {
     AddPeriod { day: u32, record: Period },
     EndPeriod { day: u32, record: Period }, // its last is the new last
     Ask(Question),
+    Enter { reference: u16, question: Question },
+    Start { csd: u8, day: u32 },
+    Release { csd: u8, reference: u16, hold: u8 },
 }
 
 #[derive(Clone, Copy, Default)]
@@ -211,6 +246,38 @@ fn rule_key(f: &[&[u8]]) -> Option<RuleKey> {
     Some(RuleKey { number: small(f[3], 1, 99)?, object: small(f[4], 1, 2)?, sequence: small(f[5], 1, 99)? })
 }
 
+fn reference(field: &[u8]) -> Option<u16> {
+    number(field, 1, 9999).map(|n| n as u16)
+}
+
+// The fields from object on: nine, or eleven with the two wishes.
+fn question(csd: u8, day: u32, f: &[&[u8]]) -> Option<Question> {
+    let object = small(f[0], 1, 2)?;
+    let mut values = [0; 10];
+    values[0] = value(0, f[1])?;
+    if object == 1 {
+        values[1] = value(1, f[2])?;
+        values[2] = value(2, f[3])?;
+    } else if !f[2].is_empty() || !f[3].is_empty() {
+        return None;
+    }
+    values[3] = value_or_empty(3, f[4])?;
+    values[9] = value_or_empty(9, f[5])?;
+    let party = number(f[6], 1, 999_999)?;
+    let account = number(f[7], 1, 999_999)?;
+    let security = number(f[8], 1, 999_999)?;
+    values[4] = security;
+    values[5] = account;
+    let wishes = match f.get(9..) {
+        Some([indicator, default]) => {
+            let wish = |field| one_of(field, b"Y", b"N");
+            Some((if indicator.is_empty() { 0 } else { wish(indicator)? }, wish(default)?))
+        }
+        _ => None,
+    };
+    Some(Question { csd, day, object, values, party, account, security, wishes })
+}
+
 // The fields of a line that has the right number of them; None is refusal 5.
 fn fields(letter: u8, f: &[&[u8]]) -> Option<Line> {
     let csd = small(f[1], 1, 8)?;
@@ -292,32 +359,10 @@ fn fields(letter: u8, f: &[&[u8]]) -> Option<Line> {
                 Line::AddPeriod { day: today, record }
             }
         }
-        _ => {
-            let object = small(f[3], 1, 2)?;
-            let mut values = [0; 10];
-            values[0] = value(0, f[4])?;
-            if object == 1 {
-                values[1] = value(1, f[5])?;
-                values[2] = value(2, f[6])?;
-            } else if !f[5].is_empty() || !f[6].is_empty() {
-                return None;
-            }
-            values[3] = value_or_empty(3, f[7])?;
-            values[9] = value_or_empty(9, f[8])?;
-            let party = number(f[9], 1, 999_999)?;
-            let account = number(f[10], 1, 999_999)?;
-            let security = number(f[11], 1, 999_999)?;
-            values[4] = security;
-            values[5] = account;
-            let wishes = match f.get(12..) {
-                Some([indicator, default]) => {
-                    let wish = |field| one_of(field, b"Y", b"N");
-                    Some((if indicator.is_empty() { 0 } else { wish(indicator)? }, wish(default)?))
-                }
-                _ => None,
-            };
-            Line::Ask(Question { csd, day: today, object, values, party, account, security, wishes })
-        }
+        b'S' => Line::Enter { reference: reference(f[3])?, question: question(csd, today, &f[4..])? },
+        b'W' => Line::Start { csd, day: today },
+        b'L' => Line::Release { csd, reference: reference(f[3])?, hold: small(f[4], 2, 3)? },
+        _ => Line::Ask(question(csd, today, &f[3..])?),
     };
     Some(line)
 }
@@ -348,6 +393,9 @@ fn read(bytes: &[u8]) -> Result<Line, u8> {
         b'O' => 6,
         b'M' | b'N' => 15,
         b'Q' => 11,
+        b'S' if *PENDING => 12,
+        b'W' if *PENDING => 2,
+        b'L' if *PENDING => 4,
         _ => return Err(3),
     };
     let longer = letter == b'Q' && count == wanted + 2;
@@ -410,11 +458,13 @@ struct Flat {
     rules: Vec<Rule>,
     rows: Vec<Row>,
     periods: Vec<Period>,
+    pending: Vec<Pending>,
     // Room for the sorted copies that the soundness check makes.
     sorted_types: Vec<(u8, u8, u8)>,
     sorted_rules: Vec<((u8, u8, u8, u8), u16)>,
     sorted_rows: Vec<(u8, u8, u8, u8, Values)>,
     sorted_periods: Vec<((u8, u8, u32, u16), u32, u32)>,
+    sorted_pending: Vec<(u8, u16)>,
 }
 
 fn ranges_of_type(t: &Type) -> bool {
@@ -477,12 +527,79 @@ fn ranges_of_period(p: &Period) -> bool {
         && p.first <= p.last
 }
 
+fn ranges_of_pending(p: &Pending) -> bool {
+    let sides = if p.object == 1 { 1..=2 } else { 0..=0 };
+    (1..=8).contains(&p.csd)
+        && (1..=9999).contains(&p.reference)
+        && (1..=2).contains(&p.object)
+        && (1..=3).contains(&p.party_type)
+        && sides.contains(&p.movement)
+        && sides.contains(&p.payment)
+        && (p.transaction == 0 || all_letters(p.transaction, 4))
+        && (p.currency == 0 || all_letters(p.currency, 3))
+        && (1..=999_999).contains(&p.party)
+        && (1..=999_999).contains(&p.account)
+        && (1..=999_999).contains(&p.security)
+        && p.holds.iter().all(|&day| day == 0 || real_day(day))
+        && !(p.holds[1] != 0 && p.object == 2)
+        && p.remembered & !TYPE_NUMBERS == 0
+}
+
 fn no_twins<T: PartialEq>(sorted: &[T]) -> bool {
     sorted.windows(2).all(|w| w[0] != w[1])
 }
 
 fn free_place<T: Default + PartialEq>(table: &[T]) -> Option<usize> {
     table.iter().position(|r| *r == T::default())
+}
+
+impl Pending {
+    fn new(reference: u16, q: &Question) -> Pending {
+        Pending {
+            csd: q.csd,
+            reference,
+            object: q.object,
+            party_type: q.values[0] as u8,
+            movement: q.values[1] as u8,
+            payment: q.values[2] as u8,
+            transaction: q.values[3],
+            currency: q.values[9],
+            party: q.party,
+            account: q.account,
+            security: q.security,
+            ..Pending::default()
+        }
+    }
+
+    fn question(&self, day: u32) -> Question {
+        let &Pending { csd, object, transaction, currency, party, account, security, .. } = self;
+        let (party_type, movement, payment) = (self.party_type.into(), self.movement.into(), self.payment.into());
+        let values = [party_type, movement, payment, transaction, security, account, 0, 0, 0, currency];
+        Question { csd, day, object, values, party, account, security, wishes: None }
+    }
+
+    // Puts on the holds that are decided and off, and remembers the types.
+    fn take(&mut self, day: u32, judged: &Judged) {
+        for (hold, by) in self.holds.iter_mut().zip(&judged.decided[1..]) {
+            if *hold == 0 && by.number != 0 {
+                *hold = day;
+            }
+        }
+        self.remembered |= judged.exempt;
+    }
+}
+
+// What the rules of a book say: what decides, and the types of which a negative rule matched.
+struct Judged {
+    decided: [Deciding; 3],
+    exempt: Numbers,
+}
+
+// Which rules are met.
+enum Met {
+    Current,
+    // At the start of a day: those whose first current day is that day, but none of the types passed over.
+    New { passed: Numbers },
 }
 
 impl Flat {
@@ -492,23 +609,26 @@ impl Flat {
             rules: vec![Rule::default(); CSDS * RULE_QUOTA],
             rows: vec![Row::default(); CSDS * ROW_QUOTA],
             periods: vec![Period::default(); CSDS * PERIOD_QUOTA],
+            pending: vec![Pending::default(); CSDS * PENDING_QUOTA],
             sorted_types: Vec::new(),
             sorted_rules: Vec::new(),
             sorted_rows: Vec::new(),
             sorted_periods: Vec::new(),
+            sorted_pending: Vec::new(),
         }
     }
 
-    // Every place is free (all zero) or a record that obeys document 01. Sorts, so it is near-linear.
+    // Every place is free (all zero) or a record that obeys the papers. Sorts, so it is near-linear.
     fn sound(&mut self) -> bool {
         if self.types.len() != CSDS * TYPE_QUOTA
             || self.rules.len() != CSDS * RULE_QUOTA
             || self.rows.len() != CSDS * ROW_QUOTA
             || self.periods.len() != CSDS * PERIOD_QUOTA
+            || self.pending.len() != CSDS * PENDING_QUOTA
         {
             return false;
         }
-        let (mut types, mut rules, mut rows, mut periods) = ([0; 9], [0; 9], [0; 9], [0; 9]);
+        let (mut types, mut rules, mut rows, mut periods, mut pending) = ([0; 9], [0; 9], [0; 9], [0; 9], [0; 9]);
 
         self.sorted_types.clear();
         for t in self.types.iter().filter(|t| **t != Type::default()) {
@@ -546,11 +666,21 @@ impl Flat {
             self.sorted_periods.push(((p.csd, p.kind, p.number, p.code / 100), p.first, p.last));
         }
 
+        self.sorted_pending.clear();
+        for p in self.pending.iter().filter(|p| **p != Pending::default()) {
+            if !ranges_of_pending(p) {
+                return false;
+            }
+            pending[p.csd as usize] += 1;
+            self.sorted_pending.push((p.csd, p.reference));
+        }
+
         // Quotas.
         if types.iter().any(|&n| n > TYPE_QUOTA)
             || rules.iter().any(|&n| n > RULE_QUOTA)
             || rows.iter().any(|&n| n > ROW_QUOTA)
             || periods.iter().any(|&n| n > PERIOD_QUOTA)
+            || pending.iter().any(|&n| n > PENDING_QUOTA)
         {
             return false;
         }
@@ -560,10 +690,12 @@ impl Flat {
         self.sorted_rules.sort_unstable();
         self.sorted_rows.sort_unstable();
         self.sorted_periods.sort_unstable();
+        self.sorted_pending.sort_unstable();
         if !no_twins(&self.sorted_types)
             || self.sorted_rules.windows(2).any(|w| w[0].0 == w[1].0)
             || !no_twins(&self.sorted_rows)
             || self.sorted_periods.windows(2).any(|w| w[0].0 == w[1].0 && w[1].1 <= w[0].2)
+            || !no_twins(&self.sorted_pending)
         {
             return false;
         }
@@ -601,6 +733,10 @@ impl Flat {
         self.rules.iter().position(|r| {
             r.csd == csd && r.number == k.number && r.object == k.object && r.sequence == k.sequence
         })
+    }
+
+    fn find_pending(&self, csd: u8, reference: u16) -> Option<usize> {
+        self.pending.iter().position(|p| p.csd == csd && p.reference == reference)
     }
 
     fn rows_of(&self, csd: u8, k: RuleKey) -> impl Iterator<Item = &Row> {
@@ -721,12 +857,55 @@ impl Flat {
                 let p = self.periods.iter_mut().find(named).ok_or(7)?;
                 end(p.first, &mut p.last, record.last)?;
             }
-            Line::Ask(_) => unreachable!("questions are judged"),
+            Line::Start { csd, day } => {
+                for place in 0..self.pending.len() {
+                    let p = &self.pending[place];
+                    if p.csd != csd {
+                        continue;
+                    }
+                    let judged = self.judged(&p.question(day), Met::New { passed: p.remembered });
+                    if judged.decided[0].number != 0 {
+                        self.pending[place] = Pending::default();
+                    } else {
+                        self.pending[place].take(day, &judged);
+                    }
+                }
+            }
+            Line::Release { csd, reference, hold } => {
+                let place = self.find_pending(csd, reference).ok_or(7)?;
+                let day = &mut self.pending[place].holds[hold as usize - 2];
+                if *day == 0 {
+                    return Err(7);
+                }
+                *day = 0;
+            }
+            Line::Ask(_) | Line::Enter { .. } => unreachable!("these are judged"),
         }
         Ok(())
     }
 
+    // S: kept unless it is rejected.
+    fn enter(&mut self, reference: u16, q: &Question) -> Result<Answer, u8> {
+        if self.find_pending(q.csd, reference).is_some() {
+            return Err(14);
+        }
+        if self.pending.iter().filter(|p| p.csd == q.csd).count() >= PENDING_QUOTA {
+            return Err(15);
+        }
+        let judged = self.judged(q, Met::Current);
+        if judged.decided[0].number == 0 {
+            let place = free_place(&self.pending).expect("room below the quota");
+            self.pending[place] = Pending::new(reference, q);
+            self.pending[place].take(q.day, &judged);
+        }
+        Ok(verdict(judged.decided, q))
+    }
+
     fn judge(&self, q: &Question) -> Answer {
+        verdict(self.judged(q, Met::Current).decided, q)
+    }
+
+    fn judged(&self, q: &Question, met: Met) -> Judged {
         let covered = |kind: u8, number: u32, code: u32| {
             self.periods.iter().any(|p| {
                 p.csd == q.csd
@@ -737,15 +916,21 @@ impl Flat {
                     && q.day <= p.last
             })
         };
-        let mut decided = [Deciding::default(); 3];
+        let mut judged = Judged { decided: [Deciding::default(); 3], exempt: 0 };
         for t in &self.types {
             if t.csd != q.csd || t.object != q.object || q.day < t.first || t.last < q.day {
+                continue;
+            }
+            if matches!(met, Met::New { passed } if passed >> t.number & 1 == 1) {
                 continue;
             }
             let mut sequence = 0;
             let mut exempt = false;
             for r in &self.rules {
                 if r.csd != q.csd || r.number != t.number || r.object != t.object || q.day < r.first || r.last < q.day {
+                    continue;
+                }
+                if matches!(met, Met::New { .. }) && r.first.max(t.first) != q.day {
                     continue;
                 }
                 let key = RuleKey { number: r.number, object: r.object, sequence: r.sequence };
@@ -760,12 +945,16 @@ impl Flat {
                     sequence = r.sequence;
                 }
             }
-            let d = &mut decided[t.processing as usize - 1];
-            if !exempt && sequence != 0 && (d.number == 0 || t.number < d.number) {
+            if exempt {
+                judged.exempt |= 1 << t.number;
+                continue;
+            }
+            let d = &mut judged.decided[t.processing as usize - 1];
+            if sequence != 0 && (d.number == 0 || t.number < d.number) {
                 *d = Deciding { number: t.number, sequence };
             }
         }
-        verdict(decided, q)
+        judged
     }
 }
 
@@ -777,6 +966,7 @@ impl Book for Flat {
         match read(bytes) {
             Err(n) => Answer::Refused(n),
             Ok(Line::Ask(q)) => self.judge(&q),
+            Ok(Line::Enter { reference, question }) => self.enter(reference, &question).unwrap_or_else(Answer::Refused),
             Ok(line) => match self.apply(line) {
                 Ok(()) => Answer::Kept,
                 Err(n) => Answer::Refused(n),
@@ -802,11 +992,19 @@ struct MapType {
     rules: BTreeMap<u8, MapRule>, // by sequence
 }
 
+struct MapPending {
+    question: Question, // its day is S's
+    // The days on which validation hold and party hold were put on, where they are on.
+    holds: [Option<u32>; 2],
+    remembered: BTreeSet<u8>,
+}
+
 #[derive(Default)]
 struct Depository {
     types: HashMap<(u8, u8), MapType>, // by object and type
     // By kind, number and attribute; each list is short.
     periods: HashMap<(u8, u32, u16), Vec<Period>>,
+    pending: HashMap<u16, MapPending>, // by reference
     rules_held: usize,
     rows_held: usize,
     periods_held: usize,
@@ -917,9 +1115,48 @@ impl Depository {
                 let p = list.iter_mut().find(|p| p.code == record.code && p.first == record.first).ok_or(7)?;
                 end(p.first, &mut p.last, record.last)?;
             }
-            Line::Ask(_) => unreachable!("questions are judged"),
+            Line::Start { day, .. } => {
+                let mut pending = std::mem::take(&mut self.pending);
+                pending.retain(|_, p| self.start(p, day));
+                self.pending = pending;
+            }
+            Line::Release { reference, hold, .. } => {
+                let p = self.pending.get_mut(&reference).ok_or(7)?;
+                p.holds[hold as usize - 2].take().ok_or(7)?;
+            }
+            Line::Ask(_) | Line::Enter { .. } => unreachable!("these are judged"),
         }
         Ok(())
+    }
+
+    // S: kept unless it is rejected.
+    fn enter(&mut self, reference: u16, q: Question) -> Result<Answer, u8> {
+        if self.pending.contains_key(&reference) {
+            return Err(14);
+        }
+        if self.pending.len() >= PENDING_QUOTA {
+            return Err(15);
+        }
+        let mut remembered = BTreeSet::new();
+        let decided = self.judged(&q, false, &mut remembered);
+        let [rejection, holds @ ..] = decided;
+        if rejection.number == 0 {
+            let holds = holds.map(|by| (by.number != 0).then_some(q.day));
+            self.pending.insert(reference, MapPending { question: q, holds, remembered });
+        }
+        Ok(verdict(decided, &q))
+    }
+
+    // W for one kept instruction: whether it stays.
+    fn start(&self, p: &mut MapPending, day: u32) -> bool {
+        let q = Question { day, ..p.question };
+        let [rejection, holds @ ..] = self.judged(&q, true, &mut p.remembered);
+        for (hold, by) in p.holds.iter_mut().zip(holds) {
+            if by.number != 0 {
+                hold.get_or_insert(day);
+            }
+        }
+        rejection.number == 0
     }
 
     fn rule(&mut self, row: &Row) -> Option<&mut MapRule> {
@@ -927,6 +1164,12 @@ impl Depository {
     }
 
     fn judge(&self, q: &Question) -> Answer {
+        verdict(self.judged(q, false, &mut BTreeSet::new()), q)
+    }
+
+    // What decides. The types in `remembered` are passed over, and those of which a negative rule matches are put into
+    // it. Where `new` is asked, only rules whose first current day is the question's count.
+    fn judged(&self, q: &Question, new: bool, remembered: &mut BTreeSet<u8>) -> [Deciding; 3] {
         let covered = |kind: u8, number: u32, code: u32| {
             self.periods.get(&(kind, number, (code / 100) as u16)).is_some_and(|list| {
                 list.iter().any(|p| u32::from(p.code) == code && p.first <= q.day && q.day <= p.last)
@@ -934,13 +1177,17 @@ impl Depository {
         };
         let mut decided = [Deciding::default(); 3];
         for (&(object, number), t) in &self.types {
-            if object != q.object || q.day < t.first || t.last < q.day {
+            if object != q.object || q.day < t.first || t.last < q.day || remembered.contains(&number) {
                 continue;
             }
             let hit = |r: &MapRule| {
-                r.first <= q.day && q.day <= r.last && r.rows.iter().any(|values| matches(values, q, covered))
+                r.first <= q.day
+                    && q.day <= r.last
+                    && (!new || r.first == q.day || t.first == q.day)
+                    && r.rows.iter().any(|values| matches(values, q, covered))
             };
             if t.rules.values().any(|r| r.sign == NEGATIVE && hit(r)) {
+                remembered.insert(number);
                 continue;
             }
             // The map is sorted by sequence.
@@ -951,7 +1198,7 @@ impl Depository {
                 }
             }
         }
-        verdict(decided, q)
+        decided
     }
 }
 
@@ -967,7 +1214,8 @@ fn csd_of(line: &Line) -> u8 {
         Line::AddRow { record } | Line::DeleteRow { record } => record.csd,
         Line::AddPeriod { record, .. } | Line::EndPeriod { record, .. } => record.csd,
         Line::EndType { csd, .. } | Line::Reorder { csd, .. } | Line::DeleteRule { csd, .. } => *csd,
-        Line::Ask(q) => q.csd,
+        Line::Ask(q) | Line::Enter { question: q, .. } => q.csd,
+        Line::Start { csd, .. } | Line::Release { csd, .. } => *csd,
     }
 }
 
@@ -980,6 +1228,9 @@ impl Book for Maps {
         let depository = &mut self.depositories[csd_of(&line) as usize - 1];
         match line {
             Line::Ask(q) => depository.judge(&q),
+            Line::Enter { reference, question } => {
+                depository.enter(reference, question).unwrap_or_else(Answer::Refused)
+            }
             line => match depository.apply(line) {
                 Ok(()) => Answer::Kept,
                 Err(n) => Answer::Refused(n),
@@ -1062,9 +1313,20 @@ mod tests {
             "M,2,20170206,9,1,5,,,APMT,,,,,,,",
             "A,2,20170206,P,7,101,20170301,20170331",
             "A,2,20170206,P,7,102,20170401,20170430",
+            "M,2,20170206,9,1,6,,,,CORP,,,,,,",
         ] {
             assert!(matches!(book.answer(line.as_bytes()), Answer::Kept), "{line}");
         }
+        // One on party hold, one that remembers type 9, one of object 2.
+        for line in [
+            "S,2,20170207,1,1,2,DELI,FREE,TRAD,EUR,11,20,30",
+            "S,2,20170207,2,1,2,RECE,APMT,CORP,,11,20,30",
+            "S,2,20170207,9999,2,2,,,,EUR,11,20,30",
+        ] {
+            let answer = book.answer(line.as_bytes());
+            assert!(matches!(answer, Answer::Verdict([Deciding { number: 0, .. }, ..], None)), "{line}");
+        }
+        assert!(book.pending[0].holds == [0, 20170207] && book.pending[1].remembered == 1 << 9);
         book
     }
 
@@ -1109,6 +1371,114 @@ mod tests {
         damaged("period quota", |b| {
             for n in 0..129 {
                 b.periods[100 + n as usize] = Period { csd: 5, number: 10 + n, ..b.periods[0] };
+            }
+        });
+    }
+
+    #[test]
+    fn damage_in_kept_records_is_seen() {
+        damaged("size", |b| b.pending.push(Pending::default()));
+        damaged("a place less", |b| b.pending.truncate(255));
+        damaged("csd 0", |b| b.pending[0].csd = 0);
+        damaged("csd 9", |b| b.pending[0].csd = 9);
+        damaged("reference 0", |b| b.pending[0].reference = 0);
+        damaged("reference 10000", |b| b.pending[0].reference = 10000);
+        damaged("reference twice", |b| b.pending[255] = Pending { reference: 2, ..b.pending[0] });
+        damaged("object 0", |b| b.pending[2].object = 0);
+        damaged("object 3", |b| b.pending[2].object = 3);
+        damaged("party type 0", |b| b.pending[0].party_type = 0);
+        damaged("party type 4", |b| b.pending[0].party_type = 4);
+        damaged("movement empty for object 1", |b| b.pending[0].movement = 0);
+        damaged("movement 3", |b| b.pending[0].movement = 3);
+        damaged("payment empty for object 1", |b| b.pending[0].payment = 0);
+        damaged("payment 3", |b| b.pending[0].payment = 3);
+        damaged("movement filled for object 2", |b| b.pending[2].movement = 1);
+        damaged("payment filled for object 2", |b| b.pending[2].payment = 2);
+        damaged("object 2 in place of 1", |b| b.pending[1].object = 2);
+        damaged("transaction of three letters", |b| b.pending[0].transaction >>= 8);
+        damaged("transaction in small letters", |b| b.pending[0].transaction |= 0x20);
+        damaged("currency of four letters", |b| b.pending[0].currency = b.pending[0].transaction);
+        damaged("currency with a digit", |b| b.pending[0].currency = 0x45_55_31);
+        damaged("party 0", |b| b.pending[0].party = 0);
+        damaged("party 1000000", |b| b.pending[0].party = 1_000_000);
+        damaged("account 0", |b| b.pending[0].account = 0);
+        damaged("account 1000000", |b| b.pending[0].account = 1_000_000);
+        damaged("security 0", |b| b.pending[0].security = 0);
+        damaged("security 1000000", |b| b.pending[0].security = 1_000_000);
+        damaged("validation hold on no such day", |b| b.pending[0].holds[0] = 20170229);
+        damaged("validation hold of 1", |b| b.pending[2].holds[0] = 1);
+        damaged("party hold on no such day", |b| b.pending[0].holds[1] = 21000101);
+        damaged("party hold of object 2", |b| b.pending[2].holds[1] = 20170207);
+        damaged("type 0 remembered", |b| b.pending[0].remembered |= 1);
+        damaged("type 100 remembered", |b| b.pending[1].remembered |= 1 << 100);
+        damaged("type 127 remembered", |b| b.pending[1].remembered |= 1 << 127);
+        damaged("free place with a hold", |b| b.pending[77].holds[1] = 20170207);
+        damaged("free place with a memory", |b| b.pending[255].remembered = 1 << 9);
+        damaged("free place with a reference", |b| b.pending[255].reference = 7);
+        damaged("quota", |b| {
+            for n in 0..33 {
+                b.pending[100 + n as usize] = Pending { csd: 5, reference: 10 + n, ..b.pending[0] };
+            }
+        });
+        damaged("quota of the depository that has others", |b| {
+            for n in 0..30 {
+                b.pending[100 + n as usize] = Pending { reference: 10 + n, ..b.pending[0] };
+            }
+        });
+    }
+
+    // No answer shows the day of a hold. One that is on keeps its day; one put on by W has W's.
+    #[test]
+    fn days_of_holds() {
+        let (mut flat, mut maps) = (Flat::new(), Maps::default());
+        let mut holds = |line: &str| {
+            assert!(!matches!(flat.answer(line.as_bytes()), Answer::Refused(_)), "{line}");
+            assert!(!matches!(maps.answer(line.as_bytes()), Answer::Refused(_)), "{line}");
+            let days = flat.pending[0].holds;
+            let mapped = maps.depositories[1].pending.get(&1).map_or([None; 2], |p| p.holds);
+            assert!(days == mapped.map(|day| day.unwrap_or(0)), "{line}");
+            days
+        };
+        for line in [
+            "T,2,20170206,9,1,3,20170207,20991231",
+            "R,2,20170206,9,1,5,P,4,20170207,20991231",
+            "R,2,20170206,9,1,6,P,1,20170210,20991231",
+            "M,2,20170206,9,1,5,,,FREE,,,,,,,",
+            "M,2,20170206,9,1,6,2,,,,,,,,,",
+            "T,2,20170206,8,1,2,20170210,20991231",
+            "R,2,20170206,8,1,1,P,1,20170210,20991231",
+            "M,2,20170206,8,1,1,2,,,,,,,,,",
+        ] {
+            assert!(holds(line) == [0, 0]);
+        }
+        assert!(holds("S,2,20170208,1,1,2,DELI,FREE,,EUR,11,20,30") == [0, 20170208]);
+        assert!(holds("W,2,20170207") == [0, 20170208]);
+        assert!(holds("W,2,20170210") == [20170210, 20170208]);
+        assert!(holds("L,2,20170301,1,3") == [20170210, 0]);
+        assert!(holds("W,2,20170211") == [20170210, 0]);
+        assert!(holds("W,2,20170207") == [20170210, 20170207]);
+        assert!(holds("L,2,20170301,1,2") == [0, 20170207]);
+        assert!(holds("W,2,20170210") == [20170210, 20170207]);
+    }
+
+    // What is not asked of kept records.
+    #[test]
+    fn other_kept_records_are_sound() {
+        let sound = |name: &str, change: &dyn Fn(&mut Flat)| {
+            let mut book = book();
+            change(&mut book);
+            assert!(book.sound(), "{name}");
+        };
+        sound("remembered types that are not held", &|b| b.pending[0].remembered = TYPE_NUMBERS);
+        sound("a hold that no type sets", &|b| b.pending[0].holds = [20000229, 20991231]);
+        sound("validation hold of object 2", &|b| b.pending[2].holds[0] = 20170207);
+        sound("no transaction, no currency", &|b| (b.pending[0].transaction, b.pending[0].currency) = (0, 0));
+        sound("a gap", &|b| b.pending[1] = Pending::default());
+        sound("a reference of two depositories", &|b| b.pending[255] = Pending { csd: 8, ..b.pending[0] });
+        sound("32 of each depository", &|b| {
+            for place in 0..256 {
+                let (csd, reference) = (1 + place as u8 % 8, 1 + place as u16 / 8);
+                b.pending[place] = Pending { csd, reference, ..b.pending[0] };
             }
         });
     }
