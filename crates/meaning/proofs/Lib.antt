@@ -12,6 +12,7 @@ pub mod First
 pub mod SameLists
 pub mod Remembered
 pub mod Keeping
+pub mod KeepingExamples
 pub mod Listed
 pub mod Keys
 pub mod Good

@@ -10,4 +10,4 @@ has-begun-spec =
     tie.close
     (tie.spec
     (λ c κs. search needs)
-    (λ c. let asked = c .before .before .args in begun-by (asked .q) (asked .t) _ (c .and .ensures)))
+    (λ c. let asked = c .before .before .before .before .before .args in begun-by (asked .q) (asked .t) _ (c .and .ensures)))

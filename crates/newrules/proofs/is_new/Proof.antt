@@ -17,8 +17,8 @@ is-new-spec =
     (λ c κs. search needs)
     (λ c.
     let second = c .before .before .before .before in
-    let first = second .before .before .before .before in
-    let asked = first .before .before .before .before .args in
+    let first = second .before .before in
+    let asked = first .before .before .before .args in
     new-by (asked .q) _ (asked .r) _ _ _ _ _ _
     (c .or .ensures)
     (c .before .and .ensures)

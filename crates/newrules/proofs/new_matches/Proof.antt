@@ -17,7 +17,7 @@ new-matches-spec =
     (λ c.
     let new = c .before .before in
     let matched = new .before .before .before in
-    let asked = matched .before .before .before .args in
+    let asked = matched .before .before .before .before .args in
     new-matches-by (asked .q) _ _ (asked .r) _ _ _ _ _
     (c .and2 .ensures)
     (c .before .and .ensures)
