@@ -1,5 +1,5 @@
--- Over a sound lone book, what is judged by the book's bytes is the written meaning's verdict; by a scope, over the lone
--- book in which only what the scope has is left.
+-- Over a sound lone book, what is judged by the book's bytes is the written meaning's verdict; by a scope, over the
+-- lone book in which only what the scope has is left.
 use Prim.Native.Nat.{ℕ, zero, suc, _<_}
 use mathlib.Core.Path.{_≡_, refl, ap, ap₂, sym, _∙_}
 use mathlib.Core.Bool.{Bool, true, false, _&&_, not, cond, and-true, and-false}

@@ -13,7 +13,8 @@ use Rattle.meaning.specs.Scope.{scoped, isNew}
 use Rattle.meaning.specs.Lone.{after}
 use Rattle.meaning.specs.Pending.{typeNumbers, typesWhich, among, heldSince, isHeld, exempts, exempted, passedOver, met, entered, startVerdict, startExempted, started, released}
 
--- the validation hold with rule 1 until 31 March 2016 and rule 2 from 1 April on, the party hold with rule 3 from 3 April
+-- the validation hold with rule 1 until 31 March 2016 and rule 2 from 1 April on; the party hold with rule 3 from 3
+-- April on
 unfoldable pub eurosettlement : Book
 eurosettlement =
     after empty (
@@ -59,8 +60,8 @@ through b (day ∷ days) k = since (next b day k) ∷ through b days (next b day
 abbrev mornings : List ℕ
 mornings = 20160331 ∷ 20160401 ∷ 20160402 ∷ 20160403 ∷ []
 
--- A is held for validation at its entry by rule 1, stays so although rule 1 has ended, is not checked against rule 2, and
--- is put on party hold on 3 April.
+-- A is held for validation at its entry by rule 1, stays so although rule 1 has ended, is not checked against rule 2,
+-- and is put on party hold on 3 April.
 pub example-6-a : through eurosettlement mornings (some (entered eurosettlement 1 (delivery 30)))
     ≡ (20160330 ∷ 0 ∷ []) ∷ (20160330 ∷ 0 ∷ []) ∷ (20160330 ∷ 0 ∷ []) ∷ (20160330 ∷ 20160403 ∷ []) ∷ []
 unfolding through eurosettlement after entered started startVerdict startExempted met judged scoped isNew exempted exempts passedOver isHeld heldSince typesWhich typeNumbers among has keep

@@ -1,5 +1,5 @@
--- The order of a lone book's records carries no meaning for what is asked of it: books with the same records judge every
--- question alike.
+-- The order of a lone book's records carries no meaning for what is asked of it: books with the same records judge
+-- every question alike.
 use Prim.Native.Nat.{ℕ, zero, suc}
 use mathlib.Core.Path.{_≡_, refl, ap, ap₂, _∙_, fun-ext}
 use mathlib.Core.Bool.{Bool, not, _&&_}

@@ -1,5 +1,6 @@
 -- Which rules are new on a question's day, over the places of the lent book: a pass over the types, then one over the
--- rules. A pass leaves marks, tests of the keys of a table of numbers; each definition is of any bytes. Assumes nothing.
+-- rules. A pass leaves marks, tests of the keys of a table of numbers; each definition is of any bytes. Assumes
+-- nothing.
 use Prim.Native.Nat.{ℕ, _+_, _*_}
 use mathlib.Core.Bool.{Bool, _&&_, _||_, cond}
 use mathlib.Core.List.{List}

@@ -1,4 +1,5 @@
--- `judge::judge_within` meets its contract; facts are named, so that a wrong one is refused for certain. Assumes nothing.
+-- `judge::judge_within` meets its contract; facts are named, so that a wrong one is refused for certain. Assumes
+-- nothing.
 use borrow.Author.Needs.{needs}
 use Rattle.judge.proofs.Judging.{by-scope}
 use Rattle.judge.proofs.judge_within.Statement.{statement}
