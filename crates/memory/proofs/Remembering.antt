@@ -13,8 +13,9 @@ use Rattle.tables.specs.Keyed.{marked}
 use Rattle.tables.proofs.Counts.{cases, cases-eq, both, agree}
 use Rattle.meaning.specs.Pending.{numbersFrom, typesWhich, among, areTypes}
 use Rattle.meaning.proofs.Remembered.{which-types, types-which}
-use Rattle.marks.specs.Flags.{withFlag}
+use Rattle.marks.specs.Flags.{weight, flag, withFlag}
 use Rattle.marks.proofs.Flagging.{flag-none, flag-with}
+use Rattle.memory.proofs.Bits.{bit-fits}
 use Rattle.memory.specs.Remembered.{bitOf, typesIn, spareClear, typeBits, withType, withTypesTo, withTypes}
 use Rattle.memory.proofs.Numbered.{among-within, among-past, which-only, which-zero, which-past, which-same}
 
@@ -194,3 +195,38 @@ marks-among m n s e =
     cases (ltb n 100)
     (λ f. rw f (sym (among-any m n s)))
     (λ f. rw f (sym (among-any m n s ∙ bit-spare m n s (spared m e) (ltb-false n 100 f))))
+
+-- ---- bytes stay bytes
+
+-- each entry is a byte
+abbrev pub Bytes : List ℕ → Type 0
+Bytes m = (k : ℕ) → getD m k 0 < 256
+
+bit-byte : (t x : ℕ) → x < 256 → withFlag (t % 8) x < 256
+unfolding withFlag
+bit-byte t x l =
+    cases (flag (t % 8) x) (λ e. rw e l) (λ e. rw e (bit-fits t x (weight (t % 8)) (flag (t % 8) x) refl refl e l))
+
+type-bytes : (m : List ℕ) (n : ℕ) (on : Bool) → length m ≡ 13 → n < 104 → Bytes m → Bytes (withType m n on)
+unfolding withType
+type-bytes m n false s l h k = h k
+type-bytes m n true s l h k =
+    let y = withFlag (n % 8) (getD m (n / 8) 0) in
+    cases-eq k (n / 8)
+    (λ e. rw (e, getD-set-same m (n / 8) y 0 (omega (arith, s))) (bit-byte n (getD m (n / 8) 0) (h (n / 8))))
+    (λ e. rw (getD-set-other m (n / 8) k y 0 e) (h k))
+
+types-bytes : (n : ℕ) (m : List ℕ) (on : ℕ → Bool) → length m ≡ 13 → n < 104 → Bytes m → Bytes (withTypesTo n m on)
+unfolding withTypesTo
+types-bytes zero m on s l h = h
+types-bytes (suc n) m on s l h =
+    type-bytes (withTypesTo n m on) (suc n) (on (suc n)) (length-types n m on ∙ s) l
+    (types-bytes n m on s (omega arith) h)
+
+pub bytes-put : (m : List ℕ) (on : ℕ → Bool) → length m ≡ 13 → Bytes m → Bytes (withTypes m on)
+unfolding withTypes
+bytes-put m on s h = types-bytes 99 m on s (omega arith) h
+
+pub length-put : (m : List ℕ) (on : ℕ → Bool) → length (withTypes m on) ≡ length m
+unfolding withTypes
+length-put m on = length-types 99 m on

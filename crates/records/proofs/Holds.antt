@@ -20,6 +20,7 @@ use Rattle.places.specs.declared.Rule.{Rule}
 use Rattle.places.specs.declared.Row.{Row}
 use Rattle.places.specs.declared.Period.{Period}
 use Rattle.places.specs.declared.Kept.{Kept}
+use Rattle.memory.proofs.Remembering.{Bytes}
 use Rattle.places.proofs.TenValues.{ten}
 use Rattle.records.specs.Said.{typeOf, ruleOf, rowOf, periodOf, instructionOf}
 
@@ -137,10 +138,6 @@ nine-most k e = (
   omega (arith, most 999999 (k .account) (search ands depth 14)),
   omega (arith, most 999999 (k .security) (search ands depth 14)),
 )
-
--- each byte of a list
-abbrev pub Bytes : List ℕ → Type 0
-Bytes m = (k : ℕ) → getD m k 0 < 256
 
 pub instruction-hold : (r : Kept) → r .csd ≤ 8 → Bytes (r .remembered) → keptFits (instructionOf r) ≡ true
     → Hold instructionWidths (instructionNumbers r)

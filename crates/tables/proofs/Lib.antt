@@ -17,4 +17,5 @@ pub mod Entries
 pub mod Padding
 pub mod Stored
 pub mod Listed
+pub mod Swept
 pub mod InOrder
