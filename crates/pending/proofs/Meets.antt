@@ -106,6 +106,10 @@ pub since-by : (day before r : ℕ) (d : Deciding) (t : Bool) → r ≡ cond t d
     → r ≡ since day before d
 since-by day before r d t e f = rw (e, f)
 
+pub scope-by : (k : Kept) (v h : Bool) → h ≡ not (eqb (k .holding) 0) → v ≡ not (eqb (k .validating) 0)
+    → record { fresh = true; validating = v; holding = h } ≡ scopeAt k
+scope-by k v h e f = rw (e, f)
+
 pub after-by : (k : Kept) (day validating holding : ℕ) (v : Verdict) (marks remembered : List ℕ)
     → remembered ≡ withTypes (k .remembered) (marked marks) → holding ≡ since day (k .holding) (v .party)
     → validating ≡ since day (k .validating) (v .validation)

@@ -1,4 +1,4 @@
--- `pending::after` meets its contract. Assumes nothing.
+-- `pending::after` meets its contract; facts are named, so that a wrong one is refused for certain. Assumes nothing.
 use Rattle.pending.proofs.Meets.{after-by}
 use borrow.Author.Needs.{needs}
 use Rattle.pending.proofs.after.Statement.{statement}
@@ -11,4 +11,9 @@ after-spec =
     (λ c κs. search needs)
     (λ c κs. search needs)
     (λ c κs. search needs)
-    (λ c. search after-by))
+    (λ c.
+    let asked = c .before .before .before .before .before .before .args in
+    after-by (asked .k) (asked .day) _ _ (asked .j .verdict) (asked .j .exempted) _
+    (c .with-types .ensures)
+    (c .before .since2 .ensures)
+    (c .before .before .since .ensures)))
