@@ -110,12 +110,12 @@ pub scope-by : (k : Kept) (v h : Bool) → h ≡ not (eqb (k .holding) 0) → v 
     → record { fresh = true; validating = v; holding = h } ≡ scopeAt k
 scope-by k v h e f = rw (e, f)
 
-pub after-by : (k : Kept) (day validating holding : ℕ) (v : Verdict) (marks remembered : List ℕ)
-    → remembered ≡ withTypes (k .remembered) (marked marks) → holding ≡ since day (k .holding) (v .party)
-    → validating ≡ since day (k .validating) (v .validation)
-    → record { rejected = v .rejected; left = keptWith k validating holding remembered } ≡ metBy k day v (marked marks)
+pub after-by : (k left : Kept) (day validating holding : ℕ) (v : Verdict) (marks remembered : List ℕ)
+    → left ≡ keptWith k validating holding remembered → remembered ≡ withTypes (k .remembered) (marked marks)
+    → holding ≡ since day (k .holding) (v .party) → validating ≡ since day (k .validating) (v .validation)
+    → record { rejected = v .rejected; left = left } ≡ metBy k day v (marked marks)
 unfolding metBy
-after-by k day validating holding v marks remembered e f g = rw (e, f, g)
+after-by k left day validating holding v marks remembered d e f g = rw (d, e, f, g)
 
 pub released-by : (k r : Kept) (hold validating holding : ℕ) → r ≡ keptWith k validating holding (k .remembered)
     → holding ≡ cond (eqb hold partyHold) 0 (k .holding) → validating ≡ cond (eqb hold validationHold) 0 (k .validating)

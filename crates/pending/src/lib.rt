@@ -8,7 +8,7 @@ ghost use Rattle.meaning.specs.Sound.{soundLone};
 ghost use Rattle.records.specs.Said.{instructionOf};
 ghost use Rattle.book.specs.Lone.{loneBook};
 ghost use Rattle.commands.specs.Asked.{questionOf};
-ghost use Rattle.pending.specs.OnBytes.{askingAt, freshAt, metBy, enteredBy, startedBy, releasedAt, leftOf, Remembering, Entered};
+ghost use Rattle.pending.specs.OnBytes.{askingAt, freshAt, keptWith, metBy, enteredBy, startedBy, releasedAt, leftOf, Remembering, Entered};
 use basics::no;
 use basics::pick;
 use commands::Question;
@@ -69,6 +69,28 @@ fn fresh(reference: u32, q: Question) -> Kept
     }
 }
 
+// The instruction with these days of its holds and these types remembered.
+fn kept_with(k: Kept, validating: u32, holding: u32, remembered: [u8; 13]) -> Kept
+    ensures { λ r. ⌜ r ≡ keptWith k validating holding remembered ⌝ }
+{
+    Kept {
+        csd: k.csd,
+        reference: k.reference,
+        object: k.object,
+        role: k.role,
+        movement: k.movement,
+        payment: k.payment,
+        transaction: k.transaction,
+        currency: k.currency,
+        party: k.party,
+        account: k.account,
+        security: k.security,
+        validating,
+        holding,
+        remembered,
+    }
+}
+
 // The day of a hold: this day where a rule puts it on, else as before.
 fn since(day: u32, before: u32, d: Deciding) -> u32
     ensures { λ r. ⌜ r ≡ since day before d ⌝ }
@@ -84,24 +106,12 @@ fn after(k: Kept, day: u32, j: Judgement) -> Met
     let v = j.verdict;
     let exempted = j.exempted;
     let remembered = k.remembered;
+    let validating = since(day, k.validating, v.validation);
+    let holding = since(day, k.holding, v.party);
+    let types = with_types(remembered, exempted);
     Met {
         rejected: v.rejected,
-        left: Kept {
-            csd: k.csd,
-            reference: k.reference,
-            object: k.object,
-            role: k.role,
-            movement: k.movement,
-            payment: k.payment,
-            transaction: k.transaction,
-            currency: k.currency,
-            party: k.party,
-            account: k.account,
-            security: k.security,
-            validating: since(day, k.validating, v.validation),
-            holding: since(day, k.holding, v.party),
-            remembered: with_types(remembered, exempted),
-        },
+        left: kept_with(k, validating, holding, types),
     }
 }
 
@@ -136,21 +146,8 @@ pub fn release(k: Kept, hold: u8) -> Kept
     ensures by_bytes { λ r. ⌜ r ≡ releasedAt hold k ⌝ }
     ensures meant { λ r. ⌜ instructionOf r ≡ released hold (instructionOf k) ⌝ }
 {
+    let validating = pick(hold == RestrictionType::VALIDATION_HOLD, 0, k.validating);
+    let holding = pick(hold == RestrictionType::PARTY_HOLD, 0, k.holding);
     let remembered = k.remembered;
-    Kept {
-        csd: k.csd,
-        reference: k.reference,
-        object: k.object,
-        role: k.role,
-        movement: k.movement,
-        payment: k.payment,
-        transaction: k.transaction,
-        currency: k.currency,
-        party: k.party,
-        account: k.account,
-        security: k.security,
-        validating: pick(hold == RestrictionType::VALIDATION_HOLD, 0, k.validating),
-        holding: pick(hold == RestrictionType::PARTY_HOLD, 0, k.holding),
-        remembered,
-    }
+    kept_with(k, validating, holding, remembered)
 }

@@ -11,9 +11,11 @@ after-spec =
     (λ c κs. search needs)
     (λ c κs. search needs)
     (λ c κs. search needs)
+    (λ c κs. search needs)
     (λ c.
-    let asked = c .before .before .before .before .before .before .args in
-    after-by (asked .k) (asked .day) _ _ (asked .j .verdict) (asked .j .exempted) _
-    (c .with-types .ensures)
-    (c .before .since2 .ensures)
-    (c .before .before .since .ensures)))
+    let asked = c .before .before .before .before .before .before .before .args in
+    after-by (asked .k) _ (asked .day) _ _ (asked .j .verdict) (asked .j .exempted) _
+    (c .kept-with .ensures)
+    (c .before .with-types .ensures)
+    (c .before .before .since2 .ensures)
+    (c .before .before .before .since .ensures)))

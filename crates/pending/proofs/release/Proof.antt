@@ -1,6 +1,5 @@
--- `pending::release` meets its contract. Assumes nothing.
+-- `pending::release` meets its contract; facts are named, so that a wrong one is refused for certain. Assumes nothing.
 use Rattle.pending.proofs.Meets.{released-by}
-use mathlib.Core.Path.{refl}
 use borrow.Author.Needs.{needs}
 use Rattle.pending.proofs.release.Statement.{statement}
 use Rattle.pending.proofs.release.Tie as tie
@@ -11,6 +10,10 @@ release-spec =
     (tie.spec
     (λ c κs. search needs)
     (λ c κs. search needs)
+    (λ c κs. search needs)
     (λ c.
-    let asked = c .before .before .before .args in
-    released-by (asked .k) _ (asked .hold) _ _ refl (c .pick2 .ensures) (c .before .pick .ensures)))
+    let asked = c .before .before .before .before .args in
+    released-by (asked .k) _ (asked .hold) _ _
+    (c .kept-with .ensures)
+    (c .before .before .pick2 .ensures)
+    (c .before .before .before .pick .ensures)))
