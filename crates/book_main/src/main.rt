@@ -2,6 +2,7 @@
 // whether it is sound. A line is a table (T types, R rules, M rows, A periods), a place, an offset in it, the byte to
 // stand there, each number in four digits, and what that is. Depositories 1 and 3 to 7 hold their whole quotas; 2 holds
 // what can be damaged alone, and 8 nothing.
+#![tactic(auto)]
 use basics::{byte_at, low, wide};
 use libc::{STDIN_FILENO, STDOUT_FILENO};
 use places::{Period, RestrictionType, Row, Rule, SIZE};

@@ -2,6 +2,7 @@
 // space of any size, and with a book that is one byte short. The calls stand in the files that are named, each over a
 // book of its own, or in standard input where none is. Each kind of call has a function of its own, named for its
 // letter in `answer_call`. tools/calls_vectors.py writes what the gate runs it on and what it must write.
+#![tactic(auto)]
 mod reading;
 mod showing;
 

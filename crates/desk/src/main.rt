@@ -2,6 +2,7 @@
 // in turn over a book emptied for it, where '-' is standard input; with 'batch CSD FILE' it sends a file as one batch;
 // with 'keler CSD DAY FIRST LAST' it prints the KELER set. What it decides stands in proved functions on slices. The
 // first failure of reading or writing is named on standard error and ends the work.
+#![tactic(auto)]
 mod batch;
 
 ghost use Rattle.std.specs.Prelude.{◌*◌, ◌≤◌, ◌≡◌, length};

@@ -1,5 +1,6 @@
 // Writes every line of the KELER set into marked bytes, then lines that are refused, and shows the result and all the
 // bytes of each. tools/keler_vectors.py writes what it must show.
+#![tactic(auto)]
 use libc::STDOUT_FILENO;
 
 fn mark(space: &mut [u8]) {

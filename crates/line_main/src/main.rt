@@ -1,5 +1,6 @@
 // Reads lines from standard input and writes of each its refusal or, where it is read, its letter; then answers in
 // their printed forms. tools/line_vectors.py writes what it reads and must write.
+#![tactic(auto)]
 use basics::pick_byte;
 use libc::{STDIN_FILENO, STDOUT_FILENO};
 use meaning::{Answer, Deciding, Verdict};

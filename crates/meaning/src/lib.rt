@@ -1,4 +1,5 @@
 // The types that the written meaning answers with. The meaning itself is in specs/, what is proved of it in proofs/.
+#![tactic(auto)]
 
 // A restriction type and the sequence of its rule that decides; 0, 0 where none does.
 #[derive(Drop)]

@@ -1,5 +1,6 @@
 // Submits each line of standard input to a book that starts emptied, and writes the answers: document 01's example, the
 // marked questions, and the exercise of docs/PROOF.md. tools/precheck_vectors.py writes what it reads and must write.
+#![tactic(auto)]
 use libc::{STDIN_FILENO, STDOUT_FILENO};
 use meaning::Answer;
 use places::SIZE;
