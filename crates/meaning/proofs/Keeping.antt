@@ -62,7 +62,7 @@ held_passed : (b : Book) (day : ℕ) (k : Kept) (hold : ℕ) → is_held k hold 
     → named (scoped (at_start b day k) b) (asking day k) hold ≡ 0
 unfolding named scoped applies passed_over
 held_passed b day k hold e =
-    least_none _ _ (λ t. not (passed_over k t)) b.types
+    least_none _ (applies (scoped (at_start b day k) b) (asking day k) hold) (λ t. not (passed_over k t)) b.types
     (λ t g.
     cases (eqb t.processing hold)
     (λ p.
@@ -180,7 +180,7 @@ module _ (b : Book) (day : ℕ) (k : Kept) (none_new : has (met_anew b day k) b.
   none_named : (types : TypeRecord → Bool) (processing : ℕ) → named (new_book types) (asking day k) processing ≡ 0
   unfolding named applies scoped
   none_named types processing =
-      least_none _ _ types b.types (λ t e. rw (none_applies types t.type positive, and-false _) refl)
+      least_none _ (applies (new_book types) (asking day k) processing) types b.types (λ t e. rw (none_applies types t.type positive, and-false _) refl)
 
   -- and none is exempted
   none_exempted : (n : ℕ) → start_exempted b day k n ≡ false

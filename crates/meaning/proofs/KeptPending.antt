@@ -38,7 +38,7 @@ no_restriction : (b : Book) (q : Question) → every type_fits b.types ≡ true 
     → named b q party_hold ≡ 0
 unfolding named applies
 no_restriction b q e o =
-    least_no _ _ type_fits b.types e
+    least_no _ (applies b q party_hold) type_fits b.types e
     (λ t f.
     let other = not_restriction t f in
     cases (eqb t.processing 3)
