@@ -38,4 +38,4 @@ pub returns-in-9 : goal.returns-in-9
 returns-in-9 c = arm_form _ 9 _ c.in-9.is (lit< tt) (omega arith)
 
 pub returns-in_default : goal.returns-in_default
-returns-in_default c = last_arm _ _ (past 0 10 _ (omega arith) c.in_default-own.rest) (omega arith)
+returns-in_default c = last_arm _ _ (past 0 10 _ (omega arith) c.in_default.in_default-own.rest) (omega arith)
