@@ -9,7 +9,7 @@ pub overflow_sub-n : goal.overflow_sub-n
 overflow_sub-n c = search numbered
 
 pub put-requires : goal.put-requires
-put-requires c κs = search ready
+put-requires c = search ready
 
 pub returns : goal.returns
 returns c = search steps
