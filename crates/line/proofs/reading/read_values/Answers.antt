@@ -3,7 +3,7 @@ use Rattle.fields.specs.Cut.{Passes}
 use Rattle.line.proofs.FieldNumbers.{row_start_lem, row_next, row_end}
 use Rattle.line.proofs.reading.read_values.Goals as goal
 
-abbrev text : Bor {𝓤 = List ℕ} → List ℕ
+abbrev text : Bor (List ℕ) → List ℕ
 text b = b.now
 
 pub loop-k-init : goal.loop-k-init
