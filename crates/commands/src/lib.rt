@@ -13,7 +13,7 @@ use meaning::Wishes;
 use places::{Period, RestrictionType, Row, Rule};
 
 // A question. Role is the instructing party's type; an empty field is 0.
-#[derive(Drop)]
+#[derive(Clone, Copy)]
 pub struct Question {
     pub csd: u8,
     pub day: u32,
@@ -29,7 +29,7 @@ pub struct Question {
 }
 
 // What is asked, beside the depository, the day and the row of a command: no enum may hold an array.
-#[derive(Drop)]
+#[derive(Clone, Copy)]
 pub enum What {
     AddType(RestrictionType),
     // Type, object, new last day.
@@ -48,7 +48,7 @@ pub enum What {
 }
 
 // A command of a depository. The row is all 0 where none is meant.
-#[derive(Drop)]
+#[derive(Clone, Copy)]
 pub struct Command {
     pub csd: u8,
     pub day: u32,

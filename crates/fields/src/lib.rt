@@ -38,7 +38,7 @@ pub fn end_after(line: &[u8], comma: usize) -> usize
 }
 
 // A lent line, and the index where the last field that was read ended: its comma, or the end of the line.
-#[derive(Drop)]
+#[derive(Clone, Copy)]
 pub struct LineReader<'a> {
     pub line: &'a [u8],
     pub at: usize,

@@ -38,7 +38,7 @@ const SEQUENCES: u8 = 100;
 const TYPE_NUMBERS: usize = 100;
 
 // What counts where a question is judged.
-#[derive(Drop)]
+#[derive(Clone, Copy)]
 pub struct Scope {
     // Only the rules that are new on the question's day count.
     pub fresh: bool,
@@ -62,7 +62,7 @@ impl Scope {
 
 // What is found by a scope: the verdict, and a mark at the number of each current type of the question's object of
 // which a negative rule that counts matches.
-#[derive(Drop)]
+#[derive(Clone, Copy)]
 pub struct Judgement {
     pub verdict: Verdict,
     pub exempted: [u8; TYPE_NUMBERS],

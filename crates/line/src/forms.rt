@@ -62,7 +62,7 @@ fn word(f: &[u8]) -> u32
 }
 
 // The number that a field gives, or that it is outside its form.
-#[derive(Drop)]
+#[derive(Clone, Copy)]
 pub enum Value {
     Is(u32),
     Wrong,

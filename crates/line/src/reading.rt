@@ -52,7 +52,7 @@ fn first_shape(letter: u8, count: usize) -> u8
 // ---- the fields of a line
 
 // The numbers of a line's fields, if each is of its form.
-#[derive(Drop)]
+#[derive(Clone, Copy)]
 struct Values {
     good: bool,
     values: [u32; 16],
@@ -129,7 +129,7 @@ fn read_values(line: &[u8], shape: u8, start: usize) -> Values
 
 // A line as it is read: the refusal, 0 for none; the letter, as its byte; the numbers of the fields after it, and zeros
 // after them. A refused line has zeros there.
-#[derive(Drop)]
+#[derive(Clone, Copy)]
 pub struct Line {
     pub refusal: u8,
     pub letter: u8,

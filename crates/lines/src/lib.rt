@@ -13,7 +13,7 @@ use soundness::is_sound;
 use text::{next_line, print};
 
 // How many bytes of a text were read, and how many of the answer space are written.
-#[derive(Drop)]
+#[derive(Clone, Copy)]
 pub struct Progress {
     pub read: usize,
     pub written: usize,
@@ -21,7 +21,7 @@ pub struct Progress {
 
 // What a desk knows between two pieces: how many bytes of the begun line stand at the front of its text space, and
 // whether its book is sound.
-#[derive(Drop)]
+#[derive(Clone, Copy)]
 pub struct Desk {
     pub held: usize,
     pub sound: bool,
@@ -29,7 +29,7 @@ pub struct Desk {
 
 // A step of a desk: the desk after it, how many bytes of the answer space are written, and whether the space was large
 // enough; where it was not, nothing was done.
-#[derive(Drop)]
+#[derive(Clone, Copy)]
 pub struct Step {
     pub desk: Desk,
     pub written: usize,

@@ -2,14 +2,14 @@
 #![tactic(auto)]
 
 // A restriction type and the sequence of its rule that decides; 0, 0 where none does.
-#[derive(Drop)]
+#[derive(Clone, Copy)]
 pub struct Deciding {
     pub number: u8,
     pub sequence: u8,
 }
 
 // What a question is answered: whether it is rejected, and what decides rejection, validation hold and party hold.
-#[derive(Drop)]
+#[derive(Clone, Copy)]
 pub struct Verdict {
     pub rejected: bool,
     pub rejection: Deciding,
@@ -19,7 +19,7 @@ pub struct Verdict {
 
 // The two more fields that a question may carry (document 02, request b), called wishes here: the sender's hold
 // indicator and the account's hold default. Y is 1, N is 2, and what is empty or not carried is 0.
-#[derive(Drop)]
+#[derive(Clone, Copy)]
 pub struct Wishes {
     pub indicator: u32,
     pub default: u32,
@@ -27,7 +27,7 @@ pub struct Wishes {
 
 // What a line is answered: K for an accepted edit, F with the refusal's number, V with the verdict, or V with the
 // verdict and the status, whether the instruction is on party hold.
-#[derive(Drop)]
+#[derive(Clone, Copy)]
 pub enum Answer {
     Taken,
     Refused(u8),
@@ -36,14 +36,14 @@ pub enum Answer {
 }
 
 // How a line was sent: alone, or in a batch of a depository.
-#[derive(Drop)]
+#[derive(Clone, Copy)]
 pub enum Sent {
     Alone,
     InBatch(u8),
 }
 
 // What a batch is answered: its refusal's number, or how many lines it has; their answers are in the answer space.
-#[derive(Drop)]
+#[derive(Clone, Copy)]
 pub enum Batch {
     Refused(u8),
     Answered(usize),

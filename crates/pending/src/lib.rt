@@ -18,7 +18,7 @@ use memory::{marks_of, with_types};
 use places::{Kept, RestrictionType};
 
 // What is left of an instruction, unless it is rejected.
-#[derive(Drop)]
+#[derive(Clone, Copy)]
 pub struct Met {
     pub rejected: bool,
     pub left: Kept,

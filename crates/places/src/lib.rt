@@ -94,7 +94,7 @@ fn four_at(b: &[u8], at: u32, j: u16) -> u32
 }
 
 // A restriction type of a depository: what becomes of an object that its rules match.
-#[derive(Drop)]
+#[derive(Clone, Copy)]
 pub struct RestrictionType {
     pub csd: u8,
     pub number: u8,
@@ -186,7 +186,7 @@ pub fn type_at(b: &[u8], i: u16) -> RestrictionType
 }
 
 // A rule of a type, with the criteria that its rows fill.
-#[derive(Drop)]
+#[derive(Clone, Copy)]
 pub struct Rule {
     pub csd: u8,
     pub number: u8,
@@ -278,7 +278,7 @@ pub fn rule_at(b: &[u8], i: u16) -> Rule
 }
 
 // A row of a rule: its ten values, 0 where empty.
-#[derive(Drop)]
+#[derive(Clone, Copy)]
 pub struct Row {
     pub csd: u8,
     pub number: u8,
@@ -356,7 +356,7 @@ pub fn row_at(b: &[u8], i: u16) -> Row
 }
 
 // An attribute period: the days on which a party, an account or a security has a code.
-#[derive(Drop)]
+#[derive(Clone, Copy)]
 pub struct Period {
     pub csd: u8,
     pub kind: u8,
@@ -433,7 +433,7 @@ pub fn period_at(b: &[u8], i: u16) -> Period
 }
 
 // A pending instruction that is kept: the days since which its holds are on, 0 where off, and the types remembered.
-#[derive(Drop)]
+#[derive(Clone, Copy)]
 pub struct Kept {
     pub csd: u8,
     pub reference: u32,

@@ -17,7 +17,7 @@ use places::{Kept, Period, RestrictionType, Row, Rule};
 // ---- What is asked of a record.
 
 // Outside: the type of that number and object, whose period does not hold the day.
-#[derive(Drop)]
+#[derive(Clone, Copy)]
 pub enum TypeAsk {
     Any,
     Named(u8, u8),
@@ -25,7 +25,7 @@ pub enum TypeAsk {
 }
 
 // Fills and Other: the rule of the row beside, with exactly the criteria that the row fills, or with others.
-#[derive(Drop)]
+#[derive(Clone, Copy)]
 pub enum RuleAsk {
     Any,
     Named(u8, u8, u8),
@@ -34,7 +34,7 @@ pub enum RuleAsk {
 }
 
 // Same and OfRule: the row beside, and the rows of its rule.
-#[derive(Drop)]
+#[derive(Clone, Copy)]
 pub enum RowAsk {
     Any,
     Same,
@@ -42,7 +42,7 @@ pub enum RowAsk {
 }
 
 // Clash: of that kind, number and attribute, and shares a day.
-#[derive(Drop)]
+#[derive(Clone, Copy)]
 pub enum PeriodAsk {
     Any,
     Clash(Period),
@@ -51,7 +51,7 @@ pub enum PeriodAsk {
 }
 
 // Held: the instruction of that reference, with that hold on.
-#[derive(Drop)]
+#[derive(Clone, Copy)]
 pub enum InstructionAsk {
     Any,
     Named(u32),

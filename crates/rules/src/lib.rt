@@ -7,7 +7,7 @@ ghost use Rattle.rules.specs.Search.{may_decide, first_positive};
 use places::Rule;
 
 // A rule of a type, as judged: whether it matches the question.
-#[derive(Drop)]
+#[derive(Clone, Copy)]
 pub struct ListedRule {
     pub sequence: u8,
     pub sign: u8,
@@ -15,7 +15,7 @@ pub struct ListedRule {
 }
 
 // The sequence of the first matching positive rule, if there is one.
-#[derive(Drop)]
+#[derive(Clone, Copy)]
 pub enum First {
     At(u8),
     Nothing,

@@ -7,7 +7,7 @@ use crate::alike::{period_alike, row_alike, rule_alike, type_alike};
 use crate::free::{period_free, row_free, rule_free, type_free};
 use places::{Period, RestrictionType, Row, Rule};
 
-#[derive(Drop)]
+#[derive(Clone, Copy)]
 pub enum Kind {
     Types,
     Rules,
@@ -15,7 +15,7 @@ pub enum Kind {
     Periods,
 }
 
-#[derive(Drop)]
+#[derive(Clone, Copy)]
 pub struct Table {
     pub kind: Kind,
     pub start: u16,

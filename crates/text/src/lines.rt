@@ -4,7 +4,7 @@ ghost use Rattle.text.specs.Parts.{Splits};
 use fields::find;
 
 // The line that begins at an index: where it ends, and where the next one begins.
-#[derive(Drop)]
+#[derive(Clone, Copy)]
 pub struct Span {
     pub end: usize,
     pub next: usize,

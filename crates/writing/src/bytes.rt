@@ -8,7 +8,7 @@ ghost use Rattle.writing.specs.Written.{nothing, added, added_all};
 pub const SPACE: usize = 80;
 
 // What is written: its bytes, zeros after them, and how many they are.
-#[derive(Drop)]
+#[derive(Clone, Copy)]
 pub struct Written {
     pub bytes: [u8; SPACE],
     pub len: usize,

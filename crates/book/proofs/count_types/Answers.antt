@@ -1,0 +1,32 @@
+-- `book::count_types` meets its contract. Assumes nothing.
+-- Written by tools/loops.py: change that, then run tools/generate.
+use Rattle.tables.proofs.Counts.{count_none}
+use Rattle.book.proofs.BookReturns.{type_between, type_counted, type_none_left, type_all}
+use Prim.Native.Nat.{◌-◌}
+use mathlib.Core.Path.{sym}
+use native.Mathlib.Omega.{arith}
+use borrow.Author.Rules.{rules}
+use Rattle.book.proofs.count_types.Goals as goal
+
+pub loop-i-init : goal.loop-i-init
+loop-i-init c = (search rules, search rules, sym (count_none _))
+
+pub returns-then-k-eq-PLACES : goal.returns-then-k-eq-PLACES
+returns-then-k-eq-PLACES c = (search type_none_left, omega arith)
+
+pub overflow_add-n : goal.overflow_add-n
+overflow_add-n c = omega arith
+
+pub overflow_add-i : goal.overflow_add-i
+overflow_add-i c = omega (arith, type_between _ _ _ _ c.next_type-k.ensures c.loop-i.invariant.0)
+
+pub loop-i-smaller : goal.loop-i-smaller
+loop-i-smaller c = omega (arith, type_between _ _ _ _ c.next_type-k.ensures c.loop-i.invariant.0)
+
+pub loop-i-preserved : goal.loop-i-preserved
+loop-i-preserved c =
+    let s = type_between _ _ _ _ c.next_type-k.ensures c.loop-i.invariant.0 in
+    (omega (arith, s), omega (arith, s), search type_counted)
+
+pub returns : goal.returns
+returns c = (type_all _ _ _ _ _ (omega arith) c.loop-i.invariant.2, omega arith)

@@ -1,0 +1,6 @@
+-- `soundness::buckets::row_bucket` meets its contract. Assumes nothing.
+use Rattle.soundness.proofs.BucketWords.{row_bucket_lem}
+use Rattle.soundness.proofs.buckets.row_bucket.Goals as goal
+
+pub returns-clause-value : goal.returns-clause-value
+returns-clause-value c = search row_bucket_lem

@@ -1,0 +1,11 @@
+-- `soundness::free::count_free` meets its contract. Assumes nothing.
+use Rattle.std.proofs.Common.{◌≡◌, ◌+◌, ◌-◌, ◌*◌, ◌≤◌}
+use Rattle.chains.specs.Sizes.{block_places}
+use Rattle.chains.specs.Blocks.{FreeFirst}
+use Rattle.soundness.proofs.free.count_free.Given as goal
+
+abbrev pub invariant-loop-n : goal.invariant-loop-n
+invariant-loop-n l = FreeFirst l.b l.from l.width l.n × (l.at ≡ l.from + l.n * l.width) × (l.n * l.width ≤ (block_places - 1) * l.width)
+
+abbrev pub decreases-loop-n : goal.decreases-loop-n
+decreases-loop-n l = block_places - l.n

@@ -1,0 +1,12 @@
+-- `soundness::owned::lone_rule` meets its contract. Assumes nothing.
+use Rattle.soundness.proofs.KindReturns.{rule_lone, rule_unfit, rule_untyped}
+use Rattle.soundness.proofs.owned.lone_rule.Goals as goal
+
+pub returns-then-not-rule_fits : goal.returns-then-not-rule_fits
+returns-then-not-rule_fits c = search rule_unfit
+
+pub returns-then-not-typed : goal.returns-then-not-typed
+returns-then-not-typed c = search rule_untyped
+
+pub returns : goal.returns
+returns c = search rule_lone

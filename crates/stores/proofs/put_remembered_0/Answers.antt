@@ -1,0 +1,7 @@
+-- `stores::put_remembered_0` meets its contract. Assumes nothing.
+use Rattle.stores.proofs.Storing.{remembered_0_put}
+use Rattle.stores.proofs.put_remembered_0.Goals as goal
+
+pub returns : goal.returns
+returns c =
+    remembered_0_put _ _ _ _ _ _ _ _ _ _ _ _ _ _ c.put_one-4.ensures c.wide-4.ensures.value c.put_one-3.ensures c.wide-3.ensures.value c.put_one-2.ensures c.wide-2.ensures.value c.put_one.ensures c.wide.ensures.value
