@@ -7,12 +7,12 @@ use Rattle.lines.specs.declared.Desk.{Desk}
 use Rattle.lines.specs.declared.Step.{Step}
 
 -- done (48), or failed (49) where the answer is an error
-unfoldable pub ended_by : {E : Type 0} → Result ℕ E → ℕ
+abbrev pub ended_by : {E : Type 0} → Result ℕ E → ℕ
 ended_by (Ok n) = 48
 ended_by (Err e) = 49
 
 -- how many bytes of a space came: none where the answer is an error, and never more than it has
-unfoldable pub came_by : {E : Type 0} → Result ℕ E → ℕ → ℕ
+abbrev pub came_by : {E : Type 0} → Result ℕ E → ℕ → ℕ
 came_by (Ok n) most = min n most
 came_by (Err e) most = 0
 
