@@ -3,31 +3,35 @@
 // stand there, each number in four digits, and what that is. Depositories 1 and 3 to 7 hold their whole quotas; 2 holds
 // what can be damaged alone, and 8 nothing.
 #![tactic(auto)]
+
+ghost use Rattle.std.specs.Prelude.{◌≤◌, length, IfOk};
+
 use basics::{byte_at, low, wide};
-use libc::{STDIN_FILENO, STDOUT_FILENO};
 use places::{Period, RestrictionType, Row, Rule, SIZE};
+use std::io;
+use std::io::Read;
 use stores::{put_period, put_row, put_rule, put_type};
 
 // ---- What is written.
 
-fn tell(sound: bool, what: &[u8]) {
+fn tell(rt: &impl Print, sound: bool, what: &[u8]) -> io::Result<()> {
     if sound {
-        io::write_all(STDOUT_FILENO, b"sound: ");
+        rt.write_all(b"sound: ")?;
     } else {
-        io::write_all(STDOUT_FILENO, b"not sound: ");
+        rt.write_all(b"not sound: ")?;
     }
-    io::write_all(STDOUT_FILENO, what);
-    io::write_all(STDOUT_FILENO, b"\n");
+    rt.write_all(what)?;
+    rt.write_all(b"\n")
 }
 
-fn say(b: &[u8], what: &[u8]) {
-    tell(soundness::is_sound(b), what);
+fn say(rt: &impl Print, b: &[u8], what: &[u8]) -> io::Result<()> {
+    tell(rt, soundness::is_sound(b), what)
 }
 
-fn empty(b: &mut [u8], what: &[u8]) {
-    io::print_decimal(STDOUT_FILENO, book::empty(b) as u64);
-    io::write_all(STDOUT_FILENO, b" ");
-    say(b, what);
+fn empty(rt: &impl Print, b: &mut [u8], what: &[u8]) -> io::Result<()> {
+    let n = book::empty(b);
+    print!(rt; "{n} ")?;
+    say(rt, b, what)
 }
 
 // ---- Whole quotas: 16 types, 4 rules of each, 2 rows of each rule; 128 periods, two to a party, one day apart.
@@ -170,40 +174,56 @@ fn number(s: &[u8]) -> u32 {
         + wide(byte_at(s, 3) % 16)
 }
 
-fn damaged(b: &mut [u8], line: &[u8]) {
+fn damaged(rt: &impl Print, b: &mut [u8], line: &[u8]) -> io::Result<()> {
     if line.len() < 17 {
-        return;
+        return Ok(());
     }
     let place = (number(&line[2..6]) % 65536) as u16;
     let at = address(byte_at(line, 0), place);
     let offset = number(&line[7..11]);
     let v = low(number(&line[12..16]));
-    tell(sound_with(b, at, offset, v), &line[17..]);
+    tell(rt, sound_with(b, at, offset, v), &line[17..])
 }
 
 // Where a line ends at i it is done, and the next starts behind it.
-fn ended(b: &mut [u8], text: &[u8], from: usize, i: usize) -> usize {
+fn ended(rt: &impl Print, b: &mut [u8], text: &[u8], from: usize, i: usize) -> io::Result<usize> {
     if byte_at(text, i) != b'\n' {
-        return from;
+        return Ok(from);
     }
     if text.len() <= i {
-        return from;
+        return Ok(from);
     }
     if i < from {
-        return from;
+        return Ok(from);
     }
-    damaged(b, &text[from..i]);
-    i + 1
+    damaged(rt, b, &text[from..i])?;
+    Ok(i + 1)
 }
 
-fn each_line(b: &mut [u8], text: &[u8]) {
+fn each_line(rt: &impl Print, b: &mut [u8], text: &[u8]) -> io::Result<()> {
     let mut from = 0;
     for i in 0..text.len() {
-        from = ended(b, text, from, i);
+        from = ended(rt, b, text, from, i)?;
     }
+    Ok(())
 }
 
 // ---- The run.
+
+// Reads until the text is full or the input ends, and returns how many bytes it put at the text's start.
+fn read_full<R: Read>(input: &mut R, text: &mut [u8]) -> io::Result<usize>
+    ensures { IfOk result (λ n. n ≤ length text.new) }
+{
+    let mut held: usize = 0;
+    for _ in 0..u64::MAX {
+        let came = input.read(&mut text[held..])?;
+        if came == 0 {
+            break;
+        }
+        held += came;
+    }
+    Ok(held)
+}
 
 fn space() -> [u8; SIZE] {
     [0; SIZE]
@@ -217,26 +237,26 @@ fn long_space() -> [u8; SIZE + 1] {
     [0; SIZE + 1]
 }
 
-fn run(b: &mut [u8], text: &[u8]) {
-    empty(b, b"emptied");
+fn run(rt: &impl Print, b: &mut [u8], text: &[u8]) -> io::Result<()> {
+    empty(rt, b, b"emptied")?;
     fill(b);
-    say(b, b"six whole quotas");
+    say(rt, b, b"six whole quotas")?;
     put_two_types(b);
     put_two_rules(b);
     put_two_rows(b);
-    say(b, b"with records of depository 2");
-    each_line(b, text);
-    say(b, b"as before");
-    empty(b, b"emptied again");
+    say(rt, b, b"with records of depository 2")?;
+    each_line(rt, b, text)?;
+    say(rt, b, b"as before")?;
+    empty(rt, b, b"emptied again")
 }
 
-fn main() {
-    let mut text = io::large_buffer();
-    let n = io::read_full(STDIN_FILENO, &mut text);
+fn main(rt: HostRuntime) -> io::Result<()> {
+    let mut text = [0u8; 65536];
+    let n = read_full(&mut rt.reader(), &mut text)?;
     let mut exact = space();
-    run(&mut exact, &text[..n]);
+    run(&rt, &mut exact, &text[..n])?;
     let mut short = short_space();
-    empty(&mut short, b"a byte too short");
+    empty(&rt, &mut short, b"a byte too short")?;
     let mut long = long_space();
-    empty(&mut long, b"a byte too long");
+    empty(&rt, &mut long, b"a byte too long")
 }

@@ -3,16 +3,21 @@
 // book of its own, or in standard input where none is. Each kind of call has a function of its own, named for its
 // letter in `answer_call`. tools/calls_vectors.py writes what the gate runs it on and what it must write.
 #![tactic(auto)]
+
 mod reading;
 mod showing;
 
-ghost use Rattle.std.specs.Prelude.{◌+◌, ◌≤◌, length};
+ghost use Rattle.std.specs.Prelude.{◌+◌, ◌≤◌, length, IfOk};
 
 use batches::submit_batch;
-use libc::{STDERR_FILENO, STDIN_FILENO};
 use places::SIZE;
 use reading::{behind_blank, decode, number_at};
 use showing::{fill, show, show_batch, show_emptied, show_space, show_unknown};
+use std::env::{Env, FillError};
+use std::fs::File;
+use std::io;
+use std::io::Read;
+use std::rt::Files;
 
 // The longest call with its byte 10. A longer one ends the work, and is named on standard error.
 const CALL: usize = 1048576;
@@ -23,41 +28,60 @@ const LENT: usize = 65536;
 // ---- The kinds of call. Each writes its answer.
 
 // e: empties the book.
-fn empty_book(book: &mut [u8]) {
-    show_emptied(precheck::empty(book));
+fn empty_book(rt: &impl Print, book: &mut [u8]) -> io::Result<()> {
+    show_emptied(rt, precheck::empty(book))
 }
 
 // l TEXT: a line, sent singly.
-fn single_line(book: &mut [u8], call: &[u8], text: &mut [u8]) {
+fn single_line(rt: &impl Print, book: &mut [u8], call: &[u8], text: &mut [u8]) -> io::Result<()> {
     let from = behind_blank(call, 1);
     let n = decode(call, from, text);
-    show(precheck::submit(book, &text[..n]));
+    show(rt, precheck::submit(book, &text[..n]))
 }
 
 // b CSD SIZE TEXT: a batch, whose answer space is filled with # first.
-fn batch(book: &mut [u8], call: &[u8], text: &mut [u8], lent: &mut [u8]) {
+fn batch(
+    rt: &impl Print,
+    book: &mut [u8],
+    call: &[u8],
+    text: &mut [u8],
+    lent: &mut [u8],
+) -> io::Result<()> {
     let csd = number_at(call, behind_blank(call, 1));
     let size = number_at(call, behind_blank(call, csd.end));
     let from = behind_blank(call, size.end);
     let n = decode(call, from, text);
-    answer_batch(book, csd.value, &text[..n], lent, size.value);
+    answer_batch(rt, book, csd.value, &text[..n], lent, size.value)
 }
 
-fn answer_batch(book: &mut [u8], csd: u32, text: &[u8], lent: &mut [u8], size: u32) {
+fn answer_batch(
+    rt: &impl Print,
+    book: &mut [u8],
+    csd: u32,
+    text: &[u8],
+    lent: &mut [u8],
+    size: u32,
+) -> io::Result<()> {
     let n = reading::least(size, lent.len());
     let space = &mut lent[..n];
     fill(space, b'#');
     let answered = submit_batch(book, reading::csd_of(csd), text, space);
-    show_batch(answered);
-    show_space(space);
+    show_batch(rt, answered)?;
+    show_space(rt, space)
 }
 
-fn answer_call(book: &mut [u8], call: &[u8], text: &mut [u8], lent: &mut [u8]) {
+fn answer_call(
+    rt: &impl Print,
+    book: &mut [u8],
+    call: &[u8],
+    text: &mut [u8],
+    lent: &mut [u8],
+) -> io::Result<()> {
     match basics::byte_at(call, 0) {
-        b'e' => empty_book(book),
-        b'l' => single_line(book, call, text),
-        b'b' => batch(book, call, text, lent),
-        _ => show_unknown(),
+        b'e' => empty_book(rt, book),
+        b'l' => single_line(rt, book, call, text),
+        b'b' => batch(rt, book, call, text, lent),
+        _ => show_unknown(rt),
     }
 }
 
@@ -87,13 +111,19 @@ fn one_less(n: usize) -> usize
     if n == 0 { 0 } else { n - 1 }
 }
 
-fn answer_sent(book: &mut [u8], call: &[u8], text: &mut [u8], lent: &mut [u8]) {
+fn answer_sent(
+    rt: &impl Print,
+    book: &mut [u8],
+    call: &[u8],
+    text: &mut [u8],
+    lent: &mut [u8],
+) -> io::Result<()> {
     let from = behind_short(call);
     if from > 0 {
         let n = one_less(book.len());
-        return answer_call(&mut book[..n], &call[from..], text, lent);
+        return answer_call(rt, &mut book[..n], &call[from..], text, lent);
     }
-    answer_call(book, call, text, lent)
+    answer_call(rt, book, call, text, lent)
 }
 
 // ---- Calls are read in pieces; those that are ended are answered before more is waited for.
@@ -112,19 +142,25 @@ fn lent_space() -> [u8; LENT] {
 }
 
 // Answers the ended calls, and returns where the one begins that is not ended.
-fn answer_calls(book: &mut [u8], calls: &[u8], text: &mut [u8], lent: &mut [u8]) -> usize
-    ensures { result ≤ length calls.now }
+fn answer_calls(
+    rt: &impl Print,
+    book: &mut [u8],
+    calls: &[u8],
+    text: &mut [u8],
+    lent: &mut [u8],
+) -> io::Result<usize>
+    ensures { IfOk result (λ n. n ≤ length calls.now) }
 {
     let mut at: usize = 0;
     while at < calls.len() {
         let end = text::next_line(calls, at).end;
         if end >= calls.len() {
-            return at;
+            return Ok(at);
         }
-        answer_sent(book, &calls[at..end], text, lent);
+        answer_sent(rt, book, &calls[at..end], text, lent)?;
         at = end + 1;
     }
-    at
+    Ok(at)
 }
 
 // Moves the bytes from an index up to another to the front, and returns how many they are; none where there are none.
@@ -147,104 +183,135 @@ fn keep(calls: &mut [u8], from: usize, to: usize) -> usize
 }
 
 // Reads once behind the bytes held, and returns how many came; a failure is named.
-fn read_behind(fd: i32, name: &[u8], calls: &mut [u8], held: usize) -> usize
+fn read_behind<R: Read>(
+    rt: &impl Eprint,
+    input: &mut R,
+    name: &str,
+    calls: &mut [u8],
+    held: usize,
+) -> usize
     requires { held ≤ length calls.old }
     ensures { held + result ≤ length calls.new }
 {
-    let rest = &mut calls[held..];
-    let got = libc::read(fd, rest);
-    let came = io::count(got, rest);
-    if got < 0 {
-        os::fail(name);
-        return 0;
+    match input.read(&mut calls[held..]) {
+        Ok(came) => came,
+        Err(e) => {
+            let _ = eprintln!(rt; "{name}: {e}");
+            0
+        }
     }
-    came
 }
 
 // A piece came behind the bytes held: the calls that are ended now are answered, and the one that is begun is kept.
 fn answer_piece(
+    rt: &impl Print,
     book: &mut [u8],
     calls: &mut [u8],
     to: usize,
     text: &mut [u8],
     lent: &mut [u8],
-) -> usize
+) -> io::Result<usize>
     requires { to ≤ length calls.old }
-    ensures { result ≤ length calls.new }
+    ensures { IfOk result (λ n. n ≤ length calls.new) }
 {
-    let begun = answer_calls(book, &calls[..to], text, lent);
-    keep(calls, begun, to)
+    let begun = answer_calls(rt, book, &calls[..to], text, lent)?;
+    Ok(keep(calls, begun, to))
 }
 
 // The end of input ends a call too.
-fn answer_end(book: &mut [u8], calls: &[u8], held: usize, text: &mut [u8], lent: &mut [u8])
+fn answer_end(
+    rt: &(impl Print + Eprint),
+    book: &mut [u8],
+    calls: &[u8],
+    held: usize,
+    text: &mut [u8],
+    lent: &mut [u8],
+) -> io::Result<()>
     requires { held ≤ length calls.now }
 {
     if held == calls.len() {
-        io::write_all(
-            STDERR_FILENO,
-            b"calls: a call is longer than 1048575 bytes\n",
-        );
-        return;
+        return eprintln!(rt; "calls: a call is longer than 1048575 bytes");
     }
     if held > 0 {
-        answer_sent(book, &calls[..held], text, lent);
+        return answer_sent(rt, book, &calls[..held], text, lent);
     }
+    Ok(())
 }
 
-// Answers until the end of input. A proved loop has to end, so it counts its turns down from a number that no input
+// Answers until the end of input. A proved loop has to end, so it counts its turns up to a number that no input
 // uses up.
-fn answer_all(
-    fd: i32,
-    name: &[u8],
+fn answer_all<R: Read>(
+    rt: &(impl Print + Eprint),
+    input: &mut R,
+    name: &str,
     book: &mut [u8],
     calls: &mut [u8],
     text: &mut [u8],
     lent: &mut [u8],
-) {
+) -> io::Result<()> {
     let mut held: usize = 0;
-    let mut turns = u64::MAX;
-    while turns > 0 {
-        let came = read_behind(fd, name, calls, held);
+    for _ in 0..u64::MAX {
+        let came = read_behind(rt, input, name, calls, held);
         if came == 0 {
-            return answer_end(book, calls, held, text, lent);
+            return answer_end(rt, book, calls, held, text, lent);
         }
-        held = answer_piece(book, calls, held + came, text, lent);
-        turns -= 1;
+        held = answer_piece(rt, book, calls, held + came, text, lent)?;
     }
+    Ok(())
 }
 
-fn answer_input(fd: i32, name: &[u8]) {
+fn answer_input<R: Read>(rt: &(impl Print + Eprint), input: &mut R, name: &str) -> io::Result<()> {
     let mut book = book_space();
     let mut calls = call_space();
     let mut text = call_space();
     let mut lent = lent_space();
-    answer_all(fd, name, &mut book, &mut calls, &mut text, &mut lent);
+    answer_all(rt, input, name, &mut book, &mut calls, &mut text, &mut lent)
 }
 
 // ---- The files.
 
-fn answer_file(path: &[u8]) {
-    let fd = os::open_read(path);
-    if fd < 0 {
-        return os::fail(path);
+fn answer_file<R: Files + Print + Eprint>(rt: &R, path: &str) -> io::Result<()> {
+    match File::open(rt, path) {
+        Ok(mut file) => answer_input(rt, &mut file, path),
+        Err(e) => eprintln!(rt; "{path}: {e}"),
     }
-    answer_input(fd, path);
-    libc::close(fd);
 }
 
-fn answer_argument(i: usize) {
-    let mut path = io::buffer();
-    let n = os::arg(i, &mut path);
-    answer_file(&path[..n]);
+// The argument at an index, where it is text that fits into the space.
+fn argument<'a>(rt: &impl Env, i: usize, space: &'a mut [u8]) -> io::Result<&'a str> {
+    match rt.arg(i, space) {
+        Ok(n) => match std::str::from_utf8(&space[..n]) {
+            Ok(text) => Ok(text),
+            Err(_) => Err(io::Error::new(io::ErrorKind::InvalidData, "an argument is no text")),
+        },
+        Err(_) => Err(io::Error::new(io::ErrorKind::InvalidFilename, "an argument is too long")),
+    }
 }
 
-fn main() {
-    let count = os::arg_count();
-    if count <= 1 {
-        return answer_input(STDIN_FILENO, b"standard input");
+fn answer_argument<R: Env + Files + Print + Eprint>(rt: &R, i: usize) -> io::Result<()> {
+    let mut space = [0u8; 4096];
+    let path = argument(rt, i, &mut space)?;
+    answer_file(rt, path)
+}
+
+// Whether the program was started with an argument at an index.
+fn is_given(rt: &impl Env, i: usize) -> bool {
+    let mut space = [0u8; 1];
+    match rt.arg(i, &mut space) {
+        Ok(_) | Err(FillError::TooLong) => true,
+        Err(FillError::NotPresent) => false,
     }
-    for i in 1..count {
-        answer_argument(i);
+}
+
+fn main(rt: HostRuntime) -> io::Result<()> {
+    if !is_given(&rt, 1) {
+        return answer_input(&rt, &mut rt.reader(), "standard input");
     }
+    for i in 1..usize::MAX {
+        if !is_given(&rt, i) {
+            break;
+        }
+        answer_argument(&rt, i)?;
+    }
+    Ok(())
 }

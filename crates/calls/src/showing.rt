@@ -1,37 +1,33 @@
 // Writes answers as vectors/CALLS.md says.
 ghost use Rattle.std.specs.Prelude.{◌≤◌, length};
 
-use libc::STDOUT_FILENO;
 use meaning::{Answer, Batch};
-
-fn write(bytes: &[u8]) {
-    io::write_all(STDOUT_FILENO, bytes);
-}
+use std::io;
 
 // The answer to a line, as the desk prints it.
-pub(crate) fn show(answer: Answer) {
-    write_answer(answer);
-    write(b"\n");
+pub(crate) fn show(rt: &impl Print, answer: Answer) -> io::Result<()> {
+    write_answer(rt, answer)?;
+    rt.write_all(b"\n")
 }
 
-fn write_answer(answer: Answer) {
+fn write_answer(rt: &impl Print, answer: Answer) -> io::Result<()> {
     let p = text::print(answer);
     let n = p.len;
     let bytes = p.bytes;
-    write(&bytes[..n]);
+    rt.write_all(&bytes[..n])
 }
 
 // The answer to emptying: K, or its refusal.
-pub(crate) fn show_emptied(refusal: u8) {
+pub(crate) fn show_emptied(rt: &impl Print, refusal: u8) -> io::Result<()> {
     if refusal == 0 {
-        return show(Answer::Taken);
+        return show(rt, Answer::Taken);
     }
-    show(Answer::Refused(refusal))
+    show(rt, Answer::Refused(refusal))
 }
 
 // A call of no kind that is known has an answer too, so that those after it stay in their places.
-pub(crate) fn show_unknown() {
-    write(b"?\n");
+pub(crate) fn show_unknown(rt: &impl Print) -> io::Result<()> {
+    rt.write_all(b"?\n")
 }
 
 // ---- A lent answer space
@@ -45,15 +41,11 @@ pub(crate) fn fill(space: &mut [u8], byte: u8) {
 }
 
 // The number of lines, or the refusal.
-pub(crate) fn show_batch(answered: Batch) {
+pub(crate) fn show_batch(rt: &impl Print, answered: Batch) -> io::Result<()> {
     match answered {
-        Batch::Refused(n) => write_answer(Answer::Refused(n)),
-        Batch::Answered(n) => write_number(n),
+        Batch::Refused(n) => write_answer(rt, Answer::Refused(n)),
+        Batch::Answered(n) => print!(rt; "{n}"),
     }
-}
-
-fn write_number(n: usize) {
-    io::print_decimal(STDOUT_FILENO, n as u64);
 }
 
 // How many bytes the space has up to its last that is not #.
@@ -90,13 +82,13 @@ fn make_readable(space: &mut [u8]) {
 }
 
 // A blank and the space without its trailing #, if anything stands there, and the answer's end.
-pub(crate) fn show_space(space: &mut [u8]) {
+pub(crate) fn show_space(rt: &impl Print, space: &mut [u8]) -> io::Result<()> {
     let n = written(space);
     if n == 0 {
-        return write(b"\n");
+        return rt.write_all(b"\n");
     }
     make_readable(space);
-    write(b" ");
-    write(&space[..n]);
-    write(b"\n");
+    rt.write_all(b" ")?;
+    rt.write_all(&space[..n])?;
+    rt.write_all(b"\n")
 }

@@ -1,19 +1,13 @@
 -- The desk's loop hands an input in pieces to `lines`.
 use Prim.Native.Nat.{ℕ, ◌+◌, ◌*◌, ◌≤◌, ◌<◌}
 use mathlib.Core.Path.{◌≡◌, refl, sym, ap, ◌∙◌}
-use mathlib.Core.Bool.{Bool, true, false, cond, false≢true}
+use mathlib.Core.Bool.{cond}
 use mathlib.Core.List.{List, [], ◌∷◌, ◌++◌, append-nil}
 use native.Mathlib.Omega.{arith}
 use native.Mathlib.Nat.{add-zero}
 use lib.ListN.{length, take, drop, length-take, length-drop}
 use lib.Seq.{length-take-le, take-add}
-use borrow.Author.Tests.{eq-eqb, ltb-true}
-use lib.IntN.{ℤ, pos, negsuc}
-use lib.Signed.{lt_z}
-use mir.Syntax.{w64}
-use mir.Val.{SFits, to_z, of_z}
-use mir.Facts.{to_z-of_z}
-use Rattle.io.specs.Counts.{clamp_len}
+use borrow.Author.Tests.{eq-eqb}
 use Rattle.places.specs.Layout.{book_size}
 use Rattle.book.specs.Emptied.{empty_answer, Emptied}
 use Rattle.lines.specs.Ended.{begun}
@@ -23,44 +17,7 @@ use Rattle.lines.specs.declared.Desk.{Desk}
 use Rattle.lines.specs.declared.Step.{Step}
 use Rattle.lines.proofs.LinesCallers.{has_room}
 use Rattle.lines.proofs.WholeText.{desk_alone}
-use Rattle.desk.specs.Loop.{ended_by, Gave, Behind, Hands, Ends, Reads, Input, OneInput}
-
-pub not_done : {A : Type 0} (s : ℕ) → (s ≡ 48 → ⊥) → s ≡ 48 → A
-not_done s f e = absurd (f e)
-
-pub not_failed : {A : Type 0} → ◌≡◌ {A = ℕ} 49 48 → A
-not_failed e = absurd (omega arith)
-
--- ---- what `read` answers: a signed local is read back from its bits
-
-below : (z : ℤ) → lt_z z (pos 0) ≡ true → 49 ≡ ended_by z
-unfolding ended_by
-below (pos k) e = absurd (let z = ltb-true k 0 e in omega (arith, z))
-below (negsuc k) e = refl
-
-above : (z : ℤ) → lt_z z (pos 0) ≡ false → 48 ≡ ended_by z
-unfolding ended_by
-above (pos k) e = refl
-above (negsuc k) e = absurd (false≢true (sym e))
-
-module _ {got : ℤ} {n : ℕ} (fits : SFits w64 got) (space : List ℕ)
-    (came : n ≡ clamp_len (to_z w64 (of_z w64 got)) (length space)) where
-  counted : n ≡ clamp_len got (length space)
-  counted = came ∙ ap (λ z. clamp_len z (length space)) (to_z-of_z fits)
-
-  pub gave_none : {s : ℕ} → lt_z (to_z w64 (of_z w64 got)) (pos 0) ≡ true → s ≡ 49 → Gave got space n s
-  gave_none e f = record { came = counted; ended = f ∙ below got (ap (λ z. lt_z z (pos 0)) (sym (to_z-of_z fits)) ∙ e) }
-
-  pub gave_some : lt_z (to_z w64 (of_z w64 got)) (pos 0) ≡ false → Gave got space n 48
-  gave_some e = record { came = counted; ended = above got (ap (λ z. lt_z z (pos 0)) (sym (to_z-of_z fits)) ∙ e) }
-
-clamped_fits : (z : ℤ) (m : ℕ) → clamp_len z m ≤ m
-clamped_fits (pos k) m = omega arith
-clamped_fits (negsuc k) m = omega arith
-
--- no more than the space has
-pub gave_fits : {got : ℤ} {space : List ℕ} {n s : ℕ} → Gave got space n s → n ≤ length space
-gave_fits {got} {space} g = omega (arith, g.came, clamped_fits got (length space))
+use Rattle.desk.specs.Loop.{Behind, Hands, Ends, Reads, Input, OneInput}
 
 -- a part of a text that stands within it has room where the whole has
 fits : (k : ℕ) (t o : List ℕ) → 33 * length t ≤ length o → 33 * length (take k t) ≤ length o

@@ -1,20 +1,24 @@
 -- What the desk's loop does with an input: it hands it in pieces to `lines`. Assumes nothing.
-use Rattle.std.specs.Prelude.{ℕ, ◌+◌, ◌≤◌, ◌<◌, ◌≡◌, true, List, length, take, ℤ, pos, negsuc}
-use Rattle.io.specs.Counts.{clamp_len}
+use Rattle.std.specs.Prelude.{ℕ, ◌+◌, ◌≤◌, ◌<◌, ◌≡◌, true, List, length, take, min, Result, Ok, Err}
 use Rattle.book.specs.Emptied.{Emptied}
 use Rattle.lines.specs.Pieces.{at_first, Piece, End}
 use Rattle.lines.specs.Whole.{Fed, joined, Alone}
 use Rattle.lines.specs.declared.Desk.{Desk}
 use Rattle.lines.specs.declared.Step.{Step}
 
--- done (48), or failed (49) where the answer is negative
-unfoldable pub ended_by : ℤ → ℕ
-ended_by (pos n) = 48
-ended_by (negsuc n) = 49
+-- done (48), or failed (49) where the answer is an error
+abbrev pub ended_by : {E : Type 0} → Result ℕ E → ℕ
+ended_by (Ok n) = 48
+ended_by (Err e) = 49
+
+-- how many bytes of a space came: none where the answer is an error, and never more than it has
+abbrev pub came_by : {E : Type 0} → Result ℕ E → ℕ → ℕ
+came_by (Ok n) most = min n most
+came_by (Err e) most = 0
 
 -- of what `read` answered into a space: how many of its bytes came, and how it ended
-pub record Gave (got : ℤ) (space : List ℕ) (bytes status : ℕ) : Type 0 where
-  pub came : bytes ≡ clamp_len got (length space)
+pub record Gave {E : Type 0} (got : Result ℕ E) (space : List ℕ) (bytes status : ℕ) : Type 0 where
+  pub came : bytes ≡ came_by got (length space)
   pub ended : status ≡ ended_by got
 
 -- r bytes were read behind the held ones, which stay

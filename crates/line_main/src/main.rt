@@ -1,34 +1,54 @@
 // Reads lines from standard input and writes of each its refusal or, where it is read, its letter; then answers in
 // their printed forms. tools/line_vectors.py writes what it reads and must write.
 #![tactic(auto)]
-use basics::pick_byte;
-use libc::{STDIN_FILENO, STDOUT_FILENO};
-use meaning::{Answer, Deciding, Verdict};
 
-fn show(line: &[u8]) {
+ghost use Rattle.std.specs.Prelude.{◌≤◌, length, IfOk};
+
+use basics::pick_byte;
+use meaning::{Answer, Deciding, Verdict};
+use std::io;
+use std::io::Read;
+
+// Reads until the text is full or the input ends, and returns how many bytes it put at the text's start.
+fn read_full<R: Read>(input: &mut R, text: &mut [u8]) -> io::Result<usize>
+    ensures { IfOk result (λ n. n ≤ length text.new) }
+{
+    let mut held: usize = 0;
+    for _ in 0..u64::MAX {
+        let came = input.read(&mut text[held..])?;
+        if came == 0 {
+            break;
+        }
+        held += came;
+    }
+    Ok(held)
+}
+
+fn show(rt: &impl Print, line: &[u8]) -> io::Result<()> {
     let r = line::read_line(line);
     let n = r.refusal;
     let shown = pick_byte(n == 0, r.letter, b'0' + n);
-    io::write_all(STDOUT_FILENO, &[shown, b'\n']);
+    rt.write_all(&[shown, b'\n'])
 }
 
 // The lines of a text, one after the other.
-fn show_lines(text: &[u8]) {
+fn show_lines(rt: &impl Print, text: &[u8]) -> io::Result<()> {
     let mut at: usize = 0;
     while at < text.len() {
         let line = text::next_line(text, at);
         let end = line.end;
-        show(&text[at..end]);
+        show(rt, &text[at..end])?;
         at = line.next;
     }
+    Ok(())
 }
 
-fn show_answer(answer: Answer) {
+fn show_answer(rt: &impl Print, answer: Answer) -> io::Result<()> {
     let p = text::print(answer);
     let n = p.len;
     let bytes = p.bytes;
-    io::write_all(STDOUT_FILENO, &bytes[..n]);
-    io::write_all(STDOUT_FILENO, b"\n");
+    rt.write_all(&bytes[..n])?;
+    rt.write_all(b"\n")
 }
 
 fn verdict(rejected: bool, a: Deciding, b: Deciding, c: Deciding) -> Verdict {
@@ -40,40 +60,43 @@ fn verdict(rejected: bool, a: Deciding, b: Deciding, c: Deciding) -> Verdict {
     }
 }
 
-fn main() {
-    let mut text = io::large_buffer();
-    let n = io::read_full(STDIN_FILENO, &mut text);
-    show_lines(&text[..n]);
+fn main(rt: HostRuntime) -> io::Result<()> {
+    let mut text = [0u8; 65536];
+    let n = read_full(&mut rt.reader(), &mut text)?;
+    show_lines(&rt, &text[..n])?;
     let none = Deciding {
         number: 0,
         sequence: 0,
     };
-    show_answer(Answer::Taken);
-    show_answer(Answer::Refused(8));
-    show_answer(Answer::Refused(10));
+    show_answer(&rt, Answer::Taken)?;
+    show_answer(&rt, Answer::Refused(8))?;
+    show_answer(&rt, Answer::Refused(10))?;
     let held = Deciding {
         number: 9,
         sequence: 5,
     };
     let accepted = verdict(false, none, none, none);
-    show_answer(Answer::Judged(verdict(false, none, none, held)));
-    show_answer(Answer::Judged(accepted));
-    show_answer(Answer::Judged(verdict(
-        true,
-        Deciding {
-            number: 255,
-            sequence: 99,
-        },
-        Deciding {
-            number: 100,
-            sequence: 10,
-        },
-        Deciding {
-            number: 9,
-            sequence: 1,
-        },
-    )));
-    show_answer(Answer::WithStatus(accepted, false));
+    show_answer(&rt, Answer::Judged(verdict(false, none, none, held)))?;
+    show_answer(&rt, Answer::Judged(accepted))?;
+    show_answer(
+        &rt,
+        Answer::Judged(verdict(
+            true,
+            Deciding {
+                number: 255,
+                sequence: 99,
+            },
+            Deciding {
+                number: 100,
+                sequence: 10,
+            },
+            Deciding {
+                number: 9,
+                sequence: 1,
+            },
+        )),
+    )?;
+    show_answer(&rt, Answer::WithStatus(accepted, false))?;
     let longest = verdict(
         true,
         Deciding {
@@ -89,5 +112,5 @@ fn main() {
             sequence: 230,
         },
     );
-    show_answer(Answer::WithStatus(longest, true));
+    show_answer(&rt, Answer::WithStatus(longest, true))
 }
