@@ -1,5 +1,6 @@
 // Small tests and choices on Booleans and numbers, without branches for whoever calls them, and total reads of a byte.
 #![tactic(auto)]
+
 ghost use Rattle.std.specs.Prelude.{◌≡◌, ◌&&◌, ◌||◌, not, cond, ◌%◌, ◌<◌, ◌≤◌, leb, get_or};
 ghost use Rattle.tables.specs.Count.{bit};
 

@@ -1,5 +1,6 @@
 // Whether a number is a day (document 01, 'Lines'): eight digits, year, month, day, 2000 to 2099, real calendar dates.
 #![tactic(auto)]
+
 ghost use Rattle.std.specs.Prelude.{◌≡◌, get_or};
 ghost use Rattle.meaning.specs.Forms.{months, month_length, is_day};
 

@@ -1,5 +1,6 @@
 // The fields of a line (document 01, 'Lines'): "Fields stand in a fixed order parted by commas, without quoting."
 #![tactic(auto)]
+
 ghost use Rattle.std.specs.Prelude.{◌+◌, ◌≡◌, drop};
 ghost use Rattle.meaning.specs.Text.{place};
 ghost use Rattle.fields.specs.Cut.{Cuts, Passes};

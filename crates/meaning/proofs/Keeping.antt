@@ -2,18 +2,18 @@
 use Prim.Native.Nat.{ℕ, zero, suc}
 use mathlib.Core.Path.{◌≡◌, refl, ap, sym, ◌∙◌, fun_ext}
 use mathlib.Core.Bool.{Bool, true, false, not, cond, ◌&&◌, ◌||◌, and-false, or-true, or-false, false≢true}
-use mathlib.Core.List.{List, [], ◌∷◌}
+use mathlib.Core.List.{[]}
 use mathlib.Core.Option.{Option, some, none}
 use lib.Dec.{eqb}
 use borrow.Author.Tests.{eqb-true, eq-eqb}
-use Rattle.tables.specs.Count.{has, keep, least}
-use Rattle.tables.proofs.Counts.{cases, both, ands}
+use Rattle.tables.specs.Count.{has}
+use Rattle.tables.proofs.Counts.{cases}
 use Rattle.tables.proofs.Lists.{every_any, has_among, keep_any}
 use Rattle.tables.proofs.Least.{has_under, least_none, has_none}
-use Rattle.meaning.specs.Records.{TypeRecord, Rule, Kept, Book, Question, rejection, validation_hold, party_hold, positive, negative}
+use Rattle.meaning.specs.Records.{TypeRecord, Kept, Book, Question, rejection, validation_hold, party_hold, positive, negative}
 use Rattle.meaning.specs.Judging.{covers, matches, tests, rule_applies, applies, named, decided, verdict, judged, nobody}
-use Rattle.meaning.specs.Scope.{Scope, whole, scoped, is_new, only_new}
-use Rattle.meaning.specs.Pending.{types_which, among, are_types, held_since, is_held, asking, exempts, exempted, passed_over, at_start, since, met, entered, start_verdict, start_exempted, started, released}
+use Rattle.meaning.specs.Scope.{scoped, is_new}
+use Rattle.meaning.specs.Pending.{among, are_types, held_since, is_held, asking, exempts, exempted, passed_over, at_start, met, entered, start_verdict, start_exempted, started, released}
 use Rattle.meaning.specs.Keeping.{WholeBook, HoldStays, HoldDays, ReleasesOne, met_anew, LeftAsItWas, MemoryStays}
 use Rattle.meaning.specs.Status.{is_on}
 use Rattle.meaning.specs.declared.Verdict.{Verdict}

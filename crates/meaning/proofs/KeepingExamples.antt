@@ -11,7 +11,7 @@ use Rattle.meaning.specs.Records.{Book, empty, Kept, Question}
 use Rattle.meaning.specs.Judging.{judged}
 use Rattle.meaning.specs.Scope.{scoped, is_new}
 use Rattle.meaning.specs.Lone.{after}
-use Rattle.meaning.specs.Pending.{type_numbers, types_which, among, held_since, is_held, exempts, exempted, passed_over, met, entered, start_verdict, start_exempted, started, released}
+use Rattle.meaning.specs.Pending.{type_numbers, types_which, among, held_since, is_held, exempts, exempted, passed_over, met, entered, start_verdict, start_exempted, started}
 
 -- the validation hold with rule 1 until 31 March 2016 and rule 2 from 1 April on; the party hold with rule 3 from 3
 -- April on

@@ -1,25 +1,24 @@
 -- S, W and L leave a list of kept instructions good: within the quota, each in its range, a reference once.
 use Prim.Native.Nat.{ℕ, ◌<◌}
 use mathlib.Core.Path.{◌≡◌, refl, ap, ap₂, sym, ◌∙◌}
-use mathlib.Core.Bool.{Bool, true, false, not, cond, ◌&&◌, ◌||◌, and-false, or-true, false≢true}
+use mathlib.Core.Bool.{Bool, true, false, not, cond, ◌&&◌, and-false, or-true}
 use mathlib.Core.List.{List, ◌∷◌}
 use mathlib.Core.Option.{some}
 use lib.Dec.{eqb}
 use lib.ListN.{length}
 use borrow.Author.Tests.{eqb-true, not-true}
-use Rattle.tables.specs.Count.{has, every, keep, sift, change}
-use Rattle.tables.proofs.Counts.{cases, both, ands}
+use Rattle.tables.specs.Count.{has, every, sift, change}
+use Rattle.tables.proofs.Counts.{cases, ands}
 use Rattle.tables.proofs.Lists.{every_keep, has_never}
 use Rattle.tables.proofs.Least.{least_no}
 use Rattle.meaning.specs.Forms.{holds, holds_all, optional, day as day_form, reference_form, nine_forms, wrongly_filled}
 use Rattle.meaning.specs.Records.{TypeRecord, Kept, Book, Question, instruction_quota, rejection, validation_hold, party_hold}
 use Rattle.meaning.specs.Keys.{is_kept}
-use Rattle.meaning.specs.Judging.{nobody, applies, named, decided, verdict, judged}
+use Rattle.meaning.specs.Judging.{nobody, applies, named, verdict, judged}
 use Rattle.meaning.specs.Status.{is_on}
 use Rattle.meaning.specs.Scope.{scoped}
 use Rattle.meaning.specs.Pending.{are_types, asking, at_start, since, met, fresh, entered, exempted, start_verdict, start_exempted, started, released}
 use Rattle.meaning.specs.Sound.{type_fits, nine_of, kept_fits}
-use Rattle.meaning.specs.declared.Deciding.{Deciding}
 use Rattle.meaning.specs.declared.Verdict.{Verdict}
 use Rattle.meaning.proofs.Remembered.{which_types}
 use Rattle.meaning.proofs.Keeping.{start_left, no_party}

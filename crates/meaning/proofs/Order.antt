@@ -1,19 +1,16 @@
 -- The order of a lone book's records carries no meaning: books with the same records give the same answers, line by
 -- line and for whole lists.
 use Prim.Native.Nat.{ℕ, zero, suc}
-use mathlib.Core.Path.{◌≡◌, refl, ap, ap₂, sym, subst, ◌∙◌, fun_ext}
-use mathlib.Core.Bool.{Bool, true, false, not, ◌&&◌}
+use mathlib.Core.Path.{◌≡◌, refl, ap, ap₂, sym, subst}
+use mathlib.Core.Bool.{Bool, true, false}
 use mathlib.Core.List.{List, [], ◌∷◌}
 use mathlib.Core.Option.{Option, some, none}
-use lib.Dec.{eqb}
-use Rattle.tables.specs.Count.{has, least}
-use Rattle.tables.proofs.Lists.{same_length, same_has, same_least, same_cons, same_without, same_change}
-use Rattle.meaning.specs.Records.{◌!◌, TypeRecord, Rule, Row, Period, Book, Question, Command, command_of, question_in, add_type, end_type, add_rule, reorder, delete_rule, add_row, delete_row, add_period, end_period, ask, positive, negative, party, account, security, rejection, validation_hold, party_hold}
+use Rattle.tables.proofs.Lists.{same_length, same_cons, same_without, same_change}
+use Rattle.meaning.specs.Records.{◌!◌, Book, Question, Command, command_of, question_in, add_type, end_type, add_rule, reorder, delete_rule, add_row, delete_row, add_period, end_period, ask}
 use Rattle.meaning.specs.Reading.{Reading, refused, asks, reading}
 use Rattle.meaning.specs.Keys.{is_type, is_rule, of_rule, is_row, is_period, clash}
 use Rattle.meaning.specs.Refusals.{type_outside, leaves, period_outside, other_criteria, first_of, conditions, refusal}
 use Rattle.meaning.specs.Edits.{type_until, rule_moved, row_moved, period_until, edited}
-use Rattle.meaning.specs.Judging.{covers, meets_all, has_code, tests, matches, rule_applies, applies, named, deciding, decided, verdict, judged}
 use Rattle.meaning.specs.Lone.{Step, elsewhere, replied, reply, unless, taken_sent, after_reading, step_sent, step, answers_sent, told, answers_from}
 use Rattle.meaning.specs.SameBook.{SameBook}
 use Rattle.meaning.proofs.OrderJudged.{types_has, rules_has, rows_has, periods_has, judged_same}

@@ -1,15 +1,14 @@
 -- What S keeps, and what the start of a day leaves of a kept instruction, does not depend on the order of the records.
 use Prim.Native.Nat.{ℕ}
-use mathlib.Core.Path.{◌≡◌, refl, ap, ap₂, sym, ◌∙◌, fun_ext}
-use mathlib.Core.Bool.{Bool, true, not, cond, ◌&&◌}
+use mathlib.Core.Path.{◌≡◌, ap, ap₂, ◌∙◌, fun_ext}
+use mathlib.Core.Bool.{true, not, cond, ◌&&◌}
 use mathlib.Core.Option.{some, none}
 use lib.Dec.{eqb}
-use Rattle.tables.specs.Count.{has, keep, Same}
+use Rattle.tables.specs.Count.{has}
 use Rattle.tables.proofs.Lists.{same_keep}
-use Rattle.meaning.specs.Records.{TypeRecord, Rule, Kept, Book, Question, negative}
-use Rattle.meaning.specs.Keys.{is_type}
-use Rattle.meaning.specs.Judging.{covers, rule_applies, judged}
-use Rattle.meaning.specs.Scope.{Scope, scoped, later, is_new, only_new}
+use Rattle.meaning.specs.Records.{Kept, Book, Question, negative}
+use Rattle.meaning.specs.Judging.{covers, judged}
+use Rattle.meaning.specs.Scope.{Scope, scoped, is_new, only_new}
 use Rattle.meaning.specs.Pending.{asking, exempts, exempted, passed_over, at_start, met, fresh, entered, start_verdict, start_exempted, started}
 use Rattle.meaning.specs.SameBook.{SameBook}
 use Rattle.meaning.proofs.OrderJudged.{types_has, judged_same, some_rule_applies_same}

@@ -1,15 +1,13 @@
 -- Lists of type numbers: which numbers a list has that a test left, and that such a list is one of types.
-use Prim.Native.Nat.{ℕ, zero, suc, ◌+◌, ◌≤◌, ◌<◌}
+use Prim.Native.Nat.{ℕ}
 use mathlib.Core.Path.{◌≡◌, refl, ap, sym, ◌∙◌}
-use mathlib.Core.Bool.{Bool, true, false, ◌&&◌, ◌||◌, cond, and-false, and-true}
+use mathlib.Core.Bool.{Bool, true, false, ◌&&◌, ◌||◌, and-false}
 use mathlib.Core.List.{List, [], ◌∷◌}
-use native.Mathlib.Omega.{arith}
-use lib.Dec.{eqb, leb, ltb}
+use lib.Dec.{eqb}
 use borrow.Author.Tests.{eqb-true, eq-eqb}
-use Rattle.tables.specs.Count.{has, every, keep}
+use Rattle.tables.specs.Count.{keep}
 use Rattle.tables.proofs.Counts.{cases, both}
 use Rattle.tables.proofs.Lists.{has_cons}
-use Rattle.meaning.specs.Text.{same}
 use Rattle.meaning.specs.Pending.{type_numbers, types_which, among, are_types}
 use Rattle.meaning.proofs.SameLists.{same_self, same_numbers}
 

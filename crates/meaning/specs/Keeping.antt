@@ -6,7 +6,7 @@ use Rattle.tables.specs.Count.{has}
 use Rattle.meaning.specs.Records.{Rule, Kept, Book, Question}
 use Rattle.meaning.specs.Judging.{covers, matches, judged}
 use Rattle.meaning.specs.Scope.{whole, scoped, is_new}
-use Rattle.meaning.specs.Pending.{are_types, among, held_since, is_held, asking, entered, start_verdict, started, released}
+use Rattle.meaning.specs.Pending.{are_types, among, held_since, is_held, asking, entered, started, released}
 
 -- A question is judged by the scope that leaves nothing out.
 abbrev pub WholeBook : Type 0

@@ -1,6 +1,7 @@
 // The table of shapes (document 01, 'Lines', and document 02, request b): a row is a letter and the forms of the fields
 // after it. Lines are read and written by it.
 #![tactic(auto)]
+
 ghost use Rattle.std.specs.Prelude.{◌<◌, ◌≡◌, get_or};
 ghost use Rattle.meaning.specs.Forms.{csd_form, letter_byte};
 ghost use Rattle.shapes.specs.Table.{form_at, forms_at, shape_at, Counted, Row};

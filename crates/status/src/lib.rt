@@ -1,5 +1,6 @@
 // The status of an instruction, whether it is on party hold, and the answer to a question (document 02, request b).
 #![tactic(auto)]
+
 ghost use Rattle.std.specs.Prelude.{◌≡◌};
 ghost use Rattle.meaning.specs.Status.{wished, status, answer_to};
 

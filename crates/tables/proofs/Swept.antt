@@ -1,17 +1,16 @@
 -- What one pass over a table leaves of its places, of the depositories' lists and of every table that lies apart.
-use Prim.Native.Nat.{ℕ, zero, suc, ◌+◌, ◌≤◌, ◌<◌}
+use Prim.Native.Nat.{ℕ, zero, suc, ◌≤◌, ◌<◌}
 use mathlib.Core.Path.{◌≡◌, refl, ap, sym, ◌∙◌}
-use mathlib.Core.Bool.{Bool, true, false, cond}
-use mathlib.Core.List.{List, [], ◌∷◌}
+use mathlib.Core.Bool.{true, false, cond}
+use mathlib.Core.List.{List, ◌∷◌}
 use mathlib.Core.Option.{Option, some, none}
-use native.Mathlib.Numerals.{add-one}
 use native.Mathlib.Omega.{arith}
 use lib.Dec.{eqb}
 use lib.ListN.{length}
-use borrow.Author.Tests.{eqb-true, eq-eqb, ne_eqb}
+use borrow.Author.Tests.{eqb-true, ne_eqb}
 use Rattle.tables.specs.Count.{sift, or_none, lone}
 use Rattle.tables.specs.Table.{Table, end, list_of, Lies, Fits, Apart}
-use Rattle.tables.specs.Sweep.{sweep_at, sweep_to}
+use Rattle.tables.specs.Sweep.{sweep_to}
 use Rattle.tables.proofs.Counts.{cases, cases_eq}
 use Rattle.tables.proofs.Lone.{lone_same}
 use Rattle.tables.proofs.Stored.{length_stored, back, other, apart}

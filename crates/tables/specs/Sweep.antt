@@ -1,7 +1,7 @@
 -- One pass over the places of a table: each that is depository a's is stored anew, as a step makes it of the book as it
 -- then is. What a step leaves free is out of the depository's list. Assumes nothing.
 use Prim.Native.Nat.{ℕ, zero, suc}
-use Rattle.std.specs.Prelude.{Bool, cond, List, eqb}
+use Rattle.std.specs.Prelude.{cond, List, eqb}
 use Rattle.tables.specs.Table.{Table}
 
 module _ {P R : Type 0} (t : Table P R) (a : ℕ) (step : List ℕ → P → P) where

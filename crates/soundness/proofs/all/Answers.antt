@@ -17,10 +17,10 @@ pub pass_block-requires-clause-owners_chained : goal.pass_block-requires-clause-
 pass_block-requires-clause-owners_chained c = search all_owners
 
 pub shape_of-head-then-not-pass_block : goal.shape_of-head-then-not-pass_block
-shape_of-head-then-not-pass_block c = omega (arith, c.requires.owners_chained.1.heads.long)
+shape_of-head-then-not-pass_block c = omega (arith, c.requires.unchained.heads.long)
 
 pub shape_of-next-then-not-pass_block : goal.shape_of-next-then-not-pass_block
-shape_of-next-then-not-pass_block c = omega (arith, c.requires.owners_chained.1.nexts.long)
+shape_of-next-then-not-pass_block c = omega (arith, c.requires.unchained.nexts.long)
 
 pub returns-then-not-pass_block : goal.returns-then-not-pass_block
 returns-then-not-pass_block c = search all_fail

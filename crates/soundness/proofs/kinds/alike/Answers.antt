@@ -1,16 +1,6 @@
 -- `soundness::kinds::alike` meets its contract. Assumes nothing.
-use Rattle.soundness.proofs.KindReturns.{
-  type_wide,
-  rule_wide,
-  row_wide,
-  period_wide,
-  types_alike,
-  rules_alike,
-  rows_alike,
-  periods_alike,
+use Rattle.soundness.proofs.KindReturns.{type_wide, rule_wide, row_wide, period_wide, types_alike, rules_alike, rows_alike, periods_alike}
 use Rattle.soundness.proofs.kinds.alike.Goals as goal
-
-}
 
 pub type_alike-requires-clause-type_width_in_bounds : goal.type_alike-requires-clause-type_width_in_bounds
 type_alike-requires-clause-type_width_in_bounds c = search type_wide

@@ -1,16 +1,6 @@
 -- `soundness::kinds::place_free` meets its contract. Assumes nothing.
-use Rattle.soundness.proofs.KindReturns.{
-  type_wide,
-  rule_wide,
-  row_wide,
-  period_wide,
-  types_free,
-  rules_free,
-  rows_free,
-  periods_free,
+use Rattle.soundness.proofs.KindReturns.{type_wide, rule_wide, row_wide, period_wide, types_free, rules_free, rows_free, periods_free}
 use Rattle.soundness.proofs.kinds.place_free.Goals as goal
-
-}
 
 pub type_free-requires : goal.type_free-requires
 type_free-requires c = search type_wide

@@ -1,0 +1,12 @@
+-- `edits::store_period` meets its contract. Assumes nothing.
+use Rattle.edits.proofs.Does.{stored, unstored}
+use Rattle.edits.specs.Edit.{store_period}
+use Rattle.edits.proofs.store_period.Goals as goal
+
+pub returns-then-i-lt-PLACES : goal.returns-then-i-lt-PLACES
+unfolding store_period
+returns-then-i-lt-PLACES c = search stored
+
+pub returns-else-i-lt-PLACES : goal.returns-else-i-lt-PLACES
+unfolding store_period
+returns-else-i-lt-PLACES c = search unstored

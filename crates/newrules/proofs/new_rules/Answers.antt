@@ -1,0 +1,37 @@
+-- `newrules::new_rules` meets its contract. Assumes nothing.
+use Prim.Native.Nat.{◌-◌}
+use mathlib.Core.Path.{◌≡◌}
+use native.Mathlib.Omega.{arith}
+use Rattle.tables.proofs.Keying.{keyed_none}
+use Rattle.owners.specs.Next.{next_rule}
+use Rattle.owners.proofs.NextPassing.{next_within}
+use Rattle.places.specs.Layout.{rule_places}
+use Rattle.owners.proofs.NextPassing.{pass_more, pass_end}
+use borrow.Author.Rules.{rules}
+use Rattle.newrules.proofs.new_rules.Goals as goal
+
+pub loop-i-init : goal.loop-i-init
+unfolding next_rule
+loop-i-init c = (search rules, search rules, search keyed_none)
+
+pub returns-then-k-eq-PLACES : goal.returns-then-k-eq-PLACES
+unfolding next_rule
+returns-then-k-eq-PLACES c =
+    pass_end _ _ _ _ _ _ _ _ _ _ _ c.next_rule-k.ensures c.loop-i.invariant.0 c.if-k-eq-PLACES.true c.loop-i.invariant.2
+
+pub overflow_add-i : goal.overflow_add-i
+unfolding next_rule
+overflow_add-i c = omega (arith, next_within _ _ _ _ c.next_rule-k.ensures c.loop-i.invariant.0)
+
+pub loop-i-smaller : goal.loop-i-smaller
+unfolding next_rule
+loop-i-smaller c = omega (arith, next_within _ _ _ _ c.next_rule-k.ensures c.loop-i.invariant.0)
+
+pub loop-i-preserved : goal.loop-i-preserved
+unfolding next_rule
+loop-i-preserved c =
+    (omega (arith, next_within _ _ _ _ c.next_rule-k.ensures c.loop-i.invariant.0), search rules, search pass_more)
+
+pub returns : goal.returns
+unfolding next_rule
+returns c = let e : c.loop-i.i ≡ rule_places = omega arith in rw e at c.loop-i.invariant.2
