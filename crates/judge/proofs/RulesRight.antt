@@ -127,5 +127,8 @@ module _ (b : List ℕ) (q : Question) (r : Ranged q.csd b) (marks : ℕ → Boo
   decides t =
       least_same _ _ sequences (λ x l. ap (λ z. cond z x 0) (rules t x positive (omega arith)))
       ∙ least_by (rules_of_lem t positive) (λ i. (rule_at b i).sequence) sequences rule_places (in_range t)
-      ∙ sym (least_lone (λ r. r.csd) rule_of q.csd (rule_at b) _ _ rule_places)
-      ∙ sym (least_among _ _ s.rules (rules_of q.csd b))
+      ∙ sym (least_lone (λ r. r.csd) rule_of q.csd (rule_at b) (λ r. r.sequence) (λ r. s.rules r && applied r) rule_places)
+      ∙ sym (least_among (λ r. r.sequence) applied s.rules (rules_of q.csd b))
+    where
+      applied : M.Rule → Bool
+      applied = rule_applies (scoped s (lone_book q.csd b)) (question_of q) t positive

@@ -76,8 +76,11 @@ module _ (b : List ℕ) (q : Question) (r : Ranged q.csd b) (marks : ℕ → Boo
   unfolding filtered scoped meant.named types_of type_of
   lowest processing =
       least_same _ _ type_places (λ i l. ap (λ z. cond (eqb (type_at b i).csd q.csd && z) (type_at b i).number 0) (applied processing i))
-      ∙ sym (least_lone (λ t. t.csd) type_of q.csd (type_at b) _ _ type_places)
-      ∙ sym (least_among _ _ s.types (types_of q.csd b))
+      ∙ sym (least_lone (λ t. t.csd) type_of q.csd (type_at b) (λ t. t.type) (λ t. s.types t && of_processing t) type_places)
+      ∙ sym (least_among (λ t. t.type) of_processing s.types (types_of q.csd b))
+    where
+      of_processing : M.TypeRecord → Bool
+      of_processing = applies filtered (question_of q) processing
 
   decided_right : (t : ℕ) → decided (rules_matched b q marks) t ≡ meant.decided filtered (question_of q) t
   unfolding filtered decided meant.decided
