@@ -2,7 +2,7 @@
 use Prim.Native.Nat.{ℕ, ◌%◌, ◌<◌}
 use mathlib.Core.Path.{◌≡◌, refl, ap, sym, ◌∙◌}
 use mathlib.Core.Bool.{true}
-use mathlib.Core.List.{List, [], ◌∷◌}
+use mathlib.Core.List.{List, ◌∷◌}
 use mathlib.Core.Option.{Option, some, none}
 use native.Mathlib.Omega.{arith}
 use lib.ListN.{length, get_or}
@@ -20,7 +20,6 @@ use Rattle.places.specs.declared.Row.{Row}
 use Rattle.commands.specs.Asked.{question_of, asked_by, asked, question_asked, question_on, what_of, row_beside, coded}
 use Rattle.commands.specs.declared.Question.{Question}
 use Rattle.commands.specs.declared.What.{What}
-use Rattle.commands.specs.declared.What.TheVariants as What
 
 -- The numbers of a key: type, object and sequence.
 abbrev Key : ℕ → ℕ → ℕ → Type 0
