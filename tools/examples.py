@@ -1,7 +1,7 @@
 #!/usr/bin/env python3
 """The examples of a page: rows of its tables whose first two columns are a line and its answer, each in back quotes.
 
-  tools/examples.py           write the desk's answers into docs/LINES.md (target/bin/desk must be built)
+  tools/examples.py           write the desk's answers into docs/LINES.md (first: tools/build desk)
   tools/examples.py --check   write nothing; name the examples that the desk answers otherwise, and fail
 
 All examples of a page are one text, answered over one emptied book. {1..16} in a line stands for sixteen lines, which

@@ -7,11 +7,11 @@ from output import noted
 HEAD = """-- The lesson (docs/LESSON.md), by computation: its lines as they are typed, and what each depository's lone book answers.
 -- Assumes nothing.
 use Prim.Native.Nat.{ℕ}
-use mathlib.Core.Path.{_≡_, refl}
-use mathlib.Core.List.{List, [], _∷_, map}
-use Rattle·meaning·specs.specs.Text.{bytes}
-use Rattle·meaning·specs.specs.Lone.{lone_answers}
-use Rattle·meaning·specs.specs.Printing.{printed}
+use mathlib.Core.Path.{◌≡◌, refl}
+use mathlib.Core.List.{List, [], ◌∷◌, map}
+use Rattle.meaning.specs.Text.{bytes}
+use Rattle.meaning.specs.Lone.{lone_answers}
+use Rattle.meaning.specs.Printing.{printed}
 """
 
 
@@ -40,9 +40,9 @@ text = HEAD + definition("lesson_lines", "the lines", lines)
 for csd in to:
     text += definition(names[csd], f"the answers to depository {csd}", to[csd])
 text += f"""
-pub lesson-answered : map (λ csd. map printed (lone_answers csd lesson_lines)) ({" ∷ ".join(to)} ∷ [])
+pub lesson_answered : map (λ csd. map printed (lone_answers csd lesson_lines)) ({" ∷ ".join(to)} ∷ [])
     ≡ {" ∷ ".join(names.values())} ∷ []
 unfolding lesson_lines {" ".join(names.values())} lone_answers printed
-lesson-answered = refl
+lesson_answered = refl
 """
 noted("lesson", "crates/meaning/proofs/Lesson.antt", text)

@@ -19,12 +19,12 @@ def ty(t, f, w):
 
 def value(x):
     """the number of a record"""
-    return f"(r .{x[0]})" if x[1] is None else f"(getD (r .{x[0]}) {x[1]} 0)"
+    return f"r.{x[0]}" if x[1] is None else f"(get_or r.{x[0]} {x[1]} 0)"
 
 def bytes_of(group, val):
-    return "(bytesOf (" + " ∷ ".join(W[x[2]] for x in group) + " ∷ []) (" + " ∷ ".join(val(x) for x in group) + " ∷ []))"
+    return "(bytes_of (" + " ∷ ".join(W[x[2]] for x in group) + " ∷ []) (" + " ∷ ".join(val(x) for x in group) + " ∷ []))"
 
-def listed_at(t, b="(now (b .entry))"):
+def listed_at(t, b="b.now"):
     """the bytes of the array at a place"""
     return " ∷ ".join(f"number one {b} at {j}" for *_, j in t.array) + " ∷ []"
 
@@ -45,7 +45,7 @@ def long_store(t):
         f0, k0 = group[0][0], group[0][1]
         what = ", ".join(x[0] for x in group) if k0 is None else f"Bytes {k0} to {group[-1][1]} of {f0}"
         out += f"\n// {what[0].upper() + what[1:]}.\nfn {stored_by(group)}(b: &mut [u8], at: u32, r: {t.struct})\n"
-        out += f"    ensures {{ λ _. ⌜ now (b .exit) ≡ puts (now (b .entry)) at {group[0][3]} {bytes_of(group, value)} ⌝ }}\n{{\n"
+        out += f"    ensures {{ b.new ≡ puts b.old at {group[0][3]} {bytes_of(group, value)} }}\n{{\n"
         if k0 is not None:
             out += f"    let v = r.{f0};\n"
         for f, k, w, j in group:
@@ -53,43 +53,43 @@ def long_store(t):
             out += f"    put_{W[w]}(b, at, {j}, " + (f"wide({v})" if w == 1 and f not in t.wide else v) + ");\n"
         out += "}\n"
     out += f"\n// The {len(t.array)} bytes of {t.array[0][0]}.\nfn put_{t.array[0][0]}(b: &mut [u8], at: u32, r: {t.struct})\n"
-    out += f"    ensures {{ λ _. ⌜ now (b .exit) ≡ puts (now (b .entry)) at {t.array[0][3]} {bytes_of(t.array, value)} ⌝ }}\n{{\n"
+    out += f"    ensures {{ b.new ≡ puts b.old at {t.array[0][3]} {bytes_of(t.array, value)} }}\n{{\n"
     out += "".join(f"    {stored_by(g)}(b, at, r);\n" for g in array) + "}\n"
     out += f"\n// What a place holds before {t.array[0][0]}.\nfn put_{t.name}_fields(b: &mut [u8], at: u32, r: {t.struct})\n"
     plain = [x for x in t.numbers if x[1] is None]
-    out += f"    ensures {{ λ _. ⌜ now (b .exit) ≡ puts (now (b .entry)) at 0 {bytes_of(plain, value)} ⌝ }}\n{{\n"
+    out += f"    ensures {{ b.new ≡ puts b.old at 0 {bytes_of(plain, value)} }}\n{{\n"
     out += "".join(f"    {stored_by(g)}(b, at, r);\n" for g in fields) + "}\n"
-    out += f"\npub fn put_{t.name}(b: &mut [u8], i: u16, r: {t.struct})\n    ensures {{ λ _. ⌜ now (b .exit) ≡ put{t.cap} (now (b .entry)) i r ⌝ }}\n{{\n"
+    out += f"\npub fn put_{t.name}(b: &mut [u8], i: u16, r: {t.struct})\n    ensures {{ b.new ≡ put_{t.name} b.old i r }}\n{{\n"
     return out + f"    let at = address({t.struct}::START, {t.struct}::WIDTH, i);\n    put_{t.name}_fields(b, at, r);\n    put_{t.array[0][0]}(b, at, r);\n}}\n"
 
 layout = [(t.struct, t.name, t.places, t.quota, t.fields, t.numbers, t.width, t.start) for t in EVERY]
 
 # ---- the code
 code = open("tools/places.head.txt").read()
-code = code.replace("BYTES", str(SIZE)).replace("{LAYOUT}", "{%s}" % ", ".join(f"{n}At, zero{n.capitalize()}" for _, n, *_ in layout))
+code = code.replace("BYTES", str(SIZE)).replace("{LAYOUT}", "{%s}" % ", ".join(f"{n}_at, zero_{n}" for _, n, *_ in layout))
 store = open("tools/stores.head.txt").read()
-store = store.replace("LAYOUT", ", ".join(f"put{n.capitalize()}" for _, n, *_ in layout))
-store = store.replace("USES", "".join(f"use places::{s};\n" for s in sorted(s for s, *_ in layout)))
+store = store.replace("LAYOUT", ", ".join(f"put_{n}" for _, n, *_ in layout))
+store = store.replace("STRUCTS", ", ".join(sorted(s for s, *_ in layout)))
 for t, (s, n, places, quota, fields, nums, size, at0) in zip(EVERY, layout):
     addr = f"address({s}::START, {s}::WIDTH, i)"
     named = "".join(f"    pub const {c}: u8 = {k};\n" for c, k in t.named)
     named = f"\n    // {t.said}\n{named}" if named else ""
-    code += f"\n// {t.about}\npub struct {s} {{\n"
+    code += f"\n// {t.about}\n#[derive(Clone, Copy)]\npub struct {s} {{\n"
     for f, w in fields:
         code += f"    pub {f}: {ty(t, f, w)},\n"
-    code += f"}}\n\nimpl {s} {{\n    pub const QUOTA: u16 = {quota};\n    pub const PLACES: u16 = {places};\n\n    // The address of the first place, and the bytes of each.\n    pub const START: u16 = {at0};\n    pub const WIDTH: u8 = {size};\n{named}\n    // What stands at a free place.\n    pub fn zero() -> {s}\n        ensures {{ λ r. ⌜ r ≡ zero{n.capitalize()} ⌝ }}\n    {{\n        {s} {{\n"
+    code += f"}}\n\nimpl {s} {{\n    pub const QUOTA: u16 = {quota};\n    pub const PLACES: u16 = {places};\n\n    // The address of the first place, and the bytes of each.\n    pub const START: u16 = {at0};\n    pub const WIDTH: u8 = {size};\n{named}\n    // What stands at a free place.\n    pub fn zero() -> {s}\n        ensures {{ result ≡ zero_{n} }}\n    {{\n        {s} {{\n"
     code += "".join(f"            {f}: {f'[0; {len(w)}]' if isinstance(w, list) else '0'},\n" for f, w in fields) + "        }\n    }\n"
     code += f"\n    pub fn new(" + ", ".join(f"{f}: {ty(t, f, w)}" for f, w in fields) + f") -> {s}\n"
-    code += "        ensures { λ r. ⌜ r ≡ record { " + "; ".join(f"{f} = {f}" for f, _ in fields) + " } ⌝ }\n    {\n"
+    code += "        ensures { result ≡ record { " + "; ".join(f"{f} = {f}" for f, _ in fields) + " } }\n    {\n"
     code += f"        {s} {{\n" + "".join(f"            {f},\n" for f, _ in fields) + "        }\n    }\n}\n"
-    code += f"\n// Whose the place is, 0 where it is free.\npub fn {n}_csd(b: &[u8], i: u16) -> u8\n    ensures {{ λ r. ⌜ r ≡ {n}At (now (b .entry)) i .csd ⌝ }}\n{{\n    byte_at(b, {addr}, 0)\n}}\n"
+    code += f"\n// Whose the place is, 0 where it is free.\npub fn {n}_csd(b: &[u8], i: u16) -> u8\n    ensures {{ result ≡ ({n}_at b.now i).csd }}\n{{\n    byte_at(b, {addr}, 0)\n}}\n"
     def read(f, k, w, j):
         r = f"{W[w]}_at(b, at, {j})"
         return f"byte_at(b, at, {j})" if w == 1 and k is None and f not in t.wide else r
-    code += f"\npub fn {n}_at(b: &[u8], i: u16) -> {s}\n    ensures {{ λ r. ⌜ r ≡ {n}At (now (b .entry)) i ⌝ }}\n{{\n    let at = {addr};\n"
+    code += f"\npub fn {n}_at(b: &[u8], i: u16) -> {s}\n    ensures {{ result ≡ {n}_at b.now i }}\n{{\n    let at = {addr};\n"
     arr = t.array
     if t.long:
-        code = code.replace(f"\npub fn {n}_at(", f"\n// The {len(arr)} bytes of {arr[0][0]}.\nfn {arr[0][0]}_at(b: &[u8], at: u32) -> [u8; {len(arr)}]\n    ensures {{ λ r. ⌜ r ≡ {listed_at(t)} ⌝ }}\n{{\n    [" + ", ".join(f"byte_at(b, at, {j})" for *_, j in arr) + f"]\n}}\n\npub fn {n}_at(")
+        code = code.replace(f"\npub fn {n}_at(", f"\n// The {len(arr)} bytes of {arr[0][0]}.\nfn {arr[0][0]}_at(b: &[u8], at: u32) -> [u8; {len(arr)}]\n    ensures {{ result ≡ {listed_at(t)} }}\n{{\n    [" + ", ".join(f"byte_at(b, at, {j})" for *_, j in arr) + f"]\n}}\n\npub fn {n}_at(")
         code += f"    let {arr[0][0]} = {arr[0][0]}_at(b, at);\n"
     elif arr:
         code += "    let values = [" + ", ".join(read(*x) for x in arr) + "];\n"
@@ -100,11 +100,11 @@ for t, (s, n, places, quota, fields, nums, size, at0) in zip(EVERY, layout):
         continue
     for half in (arr[:3], arr[3:6], arr[6:]) if arr else ():
         k0 = half[0][1]
-        ws, vs = " ∷ ".join(W[x[2]] for x in half), " ∷ ".join(f"getD v {x[1]} 0" for x in half)
+        ws, vs = " ∷ ".join(W[x[2]] for x in half), " ∷ ".join(f"get_or v {x[1]} 0" for x in half)
         store += f"\n// Values {k0} to {half[-1][1]} of a row.\nfn put_values_{k0}(b: &mut [u8], at: u32, v: [u32; 10])\n"
-        store += f"    ensures {{ λ _. ⌜ now (b .exit) ≡ puts (now (b .entry)) at {half[0][3]} (bytesOf ({ws} ∷ []) ({vs} ∷ [])) ⌝ }}\n{{\n"
+        store += f"    ensures {{ b.new ≡ puts b.old at {half[0][3]} (bytes_of ({ws} ∷ []) ({vs} ∷ [])) }}\n{{\n"
         store += "".join(f"    put_{W[w]}(b, at, {j}, v[{k}]);\n" for f, k, w, j in half) + "}\n"
-    store += f"\npub fn put_{n}(b: &mut [u8], i: u16, r: {s})\n    ensures {{ λ _. ⌜ now (b .exit) ≡ put{n.capitalize()} (now (b .entry)) i r ⌝ }}\n{{\n    let at = {addr};\n"
+    store += f"\npub fn put_{n}(b: &mut [u8], i: u16, r: {s})\n    ensures {{ b.new ≡ put_{n} b.old i r }}\n{{\n    let at = {addr};\n"
     if arr:
         store += "    let values = r.values;\n"
     rest = list(nums)
@@ -128,40 +128,38 @@ write(f"{S}/src/lib.rt", store)
 
 # ---- the definitions
 spec = """-- The book's tables: where each place starts, the numbers that stand there, and the record that they are.
-use Prim.Native.Nat.{ℕ, _+_, _*_}
-use mathlib.Core.List.{List, [], _∷_}
-use lib.ListN.{getD, drop, replicate}
-use Rattle·tables.specs.Bytes.{Width, one, two, three, four, numbers, bytesOf, puts}
+use Rattle.std.specs.Prelude.{ℕ, ◌+◌, ◌*◌, List, [], ◌∷◌, get_or, drop, replicate}
+use Rattle.tables.specs.Bytes.{Width, one, two, three, four, numbers, bytes_of, puts}
 """
 for s, *_ in layout:
-    spec += f"use Rattle·places·specs.specs.declared.{s}.{{{s}}}\n"
-spec += f"\n-- the book's size\nabbrev pub book_size : ℕ\nbookSize = {SIZE}\n"
+    spec += f"use Rattle.places.specs.declared.{s}.{{{s}}}\n"
+spec += f"\n-- the book's size\nabbrev pub book_size : ℕ\nbook_size = {SIZE}\n"
 for s, n, places, quota, fields, nums, size, at0 in layout:
     N = n.capitalize()
     spec += f"\n-- ---- {places} places of {size} bytes, from {at0}\n"
-    spec += f"\nabbrev pub {n}Places : ℕ\n{n}Places = {places}\n"
-    spec += f"\nabbrev pub {n}Base : ℕ\n{n}Base = {at0}\n\nabbrev pub {n}Width : ℕ\n{n}Width = {size}\n"
-    spec += f"\nabbrev pub {n}Start : ℕ → ℕ\n{n}Start i = {n}Base + i * {n}Width\n"
-    spec += f"\nabbrev pub {n}Widths : List Width\n{n}Widths = " + " ∷ ".join(W[x[2]] for x in nums) + " ∷ []\n"
-    spec += f"\nabbrev pub {n}From : List ℕ → {s}\n{n}From v = record {{\n  "
-    spec += ";\n  ".join(f"{f} = drop {k} v" if isinstance(w, list) else f"{f} = getD v {k} 0" for k, (f, w) in enumerate(fields)) + ";\n}\n"
-    terms = [f"r .{f}" if k is None else f"getD (r .{f}) {k} 0" for f, k, w, j in nums] + ["[]"]
-    spec += f"\nabbrev pub {n}Numbers : {s} → List ℕ\n{n}Numbers r =\n    " + "\n    ∷ ".join(" ∷ ".join(terms[k:k + 5]) for k in range(0, len(terms), 5)) + "\n"
-    spec += f"\nunfoldable pub {n}At : List ℕ → ℕ → {s}\n{n}At b i = {n}From (numbers {n}Widths b ({n}Start i) 0)\n"
-    spec += f"\nunfoldable pub put{N} : List ℕ → ℕ → {s} → List ℕ\nput{N} b i r = puts b ({n}Start i) 0 (bytesOf {n}Widths ({n}Numbers r))\n"
-    spec += f"\nabbrev pub zero{N} : {s}\nzero{N} = record {{ " + "; ".join(f"{f} = replicate {len(w)} 0" if isinstance(w, list) else f"{f} = 0" for f, w in fields) + " }\n"
+    spec += f"\nabbrev pub {n}_places : ℕ\n{n}_places = {places}\n"
+    spec += f"\nabbrev pub {n}_base : ℕ\n{n}_base = {at0}\n\nabbrev pub {n}_width : ℕ\n{n}_width = {size}\n"
+    spec += f"\nabbrev pub {n}_start : ℕ → ℕ\n{n}_start i = {n}_base + i * {n}_width\n"
+    spec += f"\nabbrev pub {n}_widths : List Width\n{n}_widths = " + " ∷ ".join(W[x[2]] for x in nums) + " ∷ []\n"
+    spec += f"\nabbrev pub {n}_from : List ℕ → {s}\n{n}_from v = record {{\n  "
+    spec += ";\n  ".join(f"{f} = drop {k} v" if isinstance(w, list) else f"{f} = get_or v {k} 0" for k, (f, w) in enumerate(fields)) + ";\n}\n"
+    terms = [f"r.{f}" if k is None else f"get_or r.{f} {k} 0" for f, k, w, j in nums] + ["[]"]
+    spec += f"\nabbrev pub {n}_numbers : {s} → List ℕ\n{n}_numbers r =\n    " + "\n    ∷ ".join(" ∷ ".join(terms[k:k + 5]) for k in range(0, len(terms), 5)) + "\n"
+    spec += f"\nunfoldable pub {n}_at : List ℕ → ℕ → {s}\n{n}_at b i = {n}_from (numbers {n}_widths b ({n}_start i) 0)\n"
+    spec += f"\nunfoldable pub put_{n} : List ℕ → ℕ → {s} → List ℕ\nput_{n} b i r = puts b ({n}_start i) 0 (bytes_of {n}_widths ({n}_numbers r))\n"
+    spec += f"\nabbrev pub zero_{n} : {s}\nzero_{n} = record {{ " + "; ".join(f"{f} = replicate {len(w)} 0" if isinstance(w, list) else f"{f} = 0" for f, w in fields) + " }\n"
 write(f"{C}/specs/Layout.antt", spec)
 
 # ---- reading: what the calls return is the record. A law over plain values, so that a wrong reading is refused for
 # certain
 law = """-- What the calls of a reading return, taken together, is the record.
 use Prim.Native.Nat.{ℕ}
-use mathlib.Core.Path.{_≡_}
-use mathlib.Core.List.{List, [], _∷_}
-use Rattle·tables.specs.Bytes.{one, two, three, four, number}
-use Rattle·places·specs.specs.Layout.{LAYOUT}
+use mathlib.Core.Path.{◌≡◌}
+use mathlib.Core.List.{List, [], ◌∷◌}
+use Rattle.tables.specs.Bytes.{one, two, three, four, number}
+use Rattle.places.specs.Layout.{LAYOUT}
 USES
-""".replace("LAYOUT", ", ".join(f"{n}Start, {n}At" for _, n, *_ in layout)).replace("USES", "\n".join(f"use Rattle·places·specs.specs.declared.{s}.{{{s}}}" for s, *_ in layout))
+""".replace("LAYOUT", ", ".join(f"{n}_start, {n}_at" for _, n, *_ in layout)).replace("USES", "\n".join(f"use Rattle.places.specs.declared.{s}.{{{s}}}" for s, *_ in layout))
 for s, n, places, quota, fields, nums, size, at0 in layout:
     xs = [f"x{j}" for *_, j in nums]
     t = next(t for t in EVERY if t.name == n)
@@ -169,40 +167,40 @@ for s, n, places, quota, fields, nums, size, at0 in layout:
     if t.long:
         plain = [x for x in nums if x[1] is None]
         xs, hs = [f"x{j}" for *_, j in plain], [f"h{j}" for *_, j in plain]
-        law += f"\npub {n}-read : (b : List ℕ) (i at {' '.join(xs)} : ℕ) (v : List ℕ) → at ≡ {n}Start i → "
+        law += f"\npub {n}_read : (b : List ℕ) (i at {' '.join(xs)} : ℕ) (v : List ℕ) → at ≡ {n}_start i → "
         law += " → ".join(f"x{j} ≡ number {W[w]} b at {j}" for f, k, w, j in plain) + f" → v ≡ {listed_at(t, 'b')}"
         rec = "; ".join([f"{f} = x{j}" for f, k, w, j in plain] + [f"{t.array[0][0]} = v"])
-        law += f" → _≡_ {{A = {s}}} (record {{ {rec} }}) ({n}At b i)\nunfolding {n}At\n"
-        law += f"{n}-read b i at {' '.join(xs)} v e {' '.join(hs)} h = rw ({', '.join(hs)}, h, e)\n"
+        law += f" → ◌≡◌ {{A = {s}}} (record {{ {rec} }}) ({n}_at b i)\nunfolding {n}_at\n"
+        law += f"{n}_read b i at {' '.join(xs)} v e {' '.join(hs)} h = rw ({', '.join(hs)}, h, e)\n"
         xs, hs = [f"x{j}" for *_, j in t.array], [f"h{j}" for *_, j in t.array]
-        law += f"\npub {t.array[0][0]}-read : (b : List ℕ) (at {' '.join(xs)} : ℕ) → "
+        law += f"\npub {t.array[0][0]}_read : (b : List ℕ) (at {' '.join(xs)} : ℕ) → "
         law += " → ".join(f"x{j} ≡ number one b at {j}" for *_, j in t.array)
-        law += f" → _≡_ {{A = List ℕ}} ({arr} ∷ []) ({listed_at(t, 'b')})\n"
-        law += f"{t.array[0][0]}-read b at {' '.join(xs)} {' '.join(hs)} = rw ({', '.join(hs)})\n"
+        law += f" → ◌≡◌ {{A = List ℕ}} ({arr} ∷ []) ({listed_at(t, 'b')})\n"
+        law += f"{t.array[0][0]}_read b at {' '.join(xs)} {' '.join(hs)} = rw ({', '.join(hs)})\n"
         continue
-    law += f"\npub {n}-read : (b : List ℕ) (i at {' '.join(xs)} : ℕ) → at ≡ {n}Start i → "
+    law += f"\npub {n}_read_lem : (b : List ℕ) (i at {' '.join(xs)} : ℕ) → at ≡ {n}_start i → "
     law += " → ".join(f"x{j} ≡ number {W[w]} b at {j}" for f, k, w, j in nums)
     rec = "; ".join([f"{f} = x{j}" for f, k, w, j in nums if k is None] + ([f"values = {arr} ∷ []"] if arr else []))
-    law += f" → _≡_ {{A = {s}}} (record {{ {rec} }}) ({n}At b i)\nunfolding {n}At\n"
+    law += f" → ◌≡◌ {{A = {s}}} (record {{ {rec} }}) ({n}_at b i)\nunfolding {n}_at\n"
     hs = [f"h{j}" for *_, j in nums]
-    law += f"{n}-read b i at {' '.join(xs)} e {' '.join(hs)} = rw ({', '.join(hs)}, e)\n"
+    law += f"{n}_read_lem b i at {' '.join(xs)} e {' '.join(hs)} = rw ({', '.join(hs)}, e)\n"
 write(f"{C}/proofs/Reading.antt", law)
 
 # ---- storing: one store after the other stores the record
 law = """-- Stores one after the other, as the functions make them. The premises stand last store first: then each says which list the next is about.
-use Prim.Native.Nat.{ℕ, _+_}
-use mathlib.Core.Path.{_≡_}
-use mathlib.Core.List.{List, [], _∷_}
-use native.Mathlib.Nat.{add-assoc}
-use lib.ListN.{getD}
-use Rattle·tables.specs.Bytes.{one, two, three, four, digits, bytesOf, puts}
-use Rattle·places.specs.Layout.{LAYOUT}
+use Prim.Native.Nat.{ℕ, ◌+◌}
+use mathlib.Core.Path.{◌≡◌}
+use mathlib.Core.List.{List, [], ◌∷◌}
+use native.Mathlib.Nat.{add_assoc}
+use lib.ListN.{get_or}
+use Rattle.tables.specs.Bytes.{one, two, three, four, digits, bytes_of, puts}
+use Rattle.places.specs.Layout.{LAYOUT}
 USES
 
-pub days-put : (b b0 b1 : List ℕ) (at j first last : ℕ) → b1 ≡ puts b0 at (j + 4) (digits four last) → b0 ≡ puts b at j (digits four first) → b1 ≡ puts b at j (bytesOf (four ∷ four ∷ []) (first ∷ last ∷ []))
-unfolding puts digits bytesOf
-days-put b b0 b1 at j first last h1 h0 = rw (h1, h0) (simp add-assoc)
-""".replace("LAYOUT", ", ".join(f"{n}Start, put{n.capitalize()}" for _, n, *_ in layout)).replace("USES", "\n".join(f"use Rattle·places.specs.declared.{s}.{{{s}}}" for s, *_ in layout))
+pub days_put : (b b0 b1 : List ℕ) (at j first last : ℕ) → b1 ≡ puts b0 at (j + 4) (digits four last) → b0 ≡ puts b at j (digits four first) → b1 ≡ puts b at j (bytes_of (four ∷ four ∷ []) (first ∷ last ∷ []))
+unfolding puts digits bytes_of
+days_put b b0 b1 at j first last h1 h0 = rw (h1, h0) (simp add_assoc)
+""".replace("LAYOUT", ", ".join(f"{n}_start, put_{n}" for _, n, *_ in layout)).replace("USES", "\n".join(f"use Rattle.places.specs.declared.{s}.{{{s}}}" for s, *_ in layout))
 def chain(name, binders, at, steps, result, unfold, start=""):
     """steps: offset, what is stored, and the number that `wide` was given; start: the address of the place"""
     wides = [f"w{m}" for m, st in enumerate(steps) if len(st) == 3]
@@ -225,7 +223,7 @@ def chain(name, binders, at, steps, result, unfold, start=""):
     for part in binders.split(")"):
         if "(" in part:
             vs += part.split("(")[1].split(":")[0].split()
-    t += f"b{len(steps) - 1} ≡ {result}\nunfolding puts digits bytesOf {unfold}".rstrip() + "\n"
+    t += f"b{len(steps) - 1} ≡ {result}\nunfolding puts digits bytes_of {unfold}".rstrip() + "\n"
     return t + f"{name} b {' '.join(f'b{m}' for m in range(len(steps)))} {' '.join(vs)} {' '.join(args)} = rw ({', '.join(order)})\n"
 def alone(x):
     """a number, whatever the record"""
@@ -237,15 +235,15 @@ def long_laws(t):
     for g in fields + array:
         at = g[0][3]
         steps = [(x[3], "", alone(x)) if x[2] == 1 and x[0] not in t.wide else (x[3], f"(digits {W[x[2]]} {alone(x)})") for x in g]
-        out += chain(f"{stored_by(g)[4:].replace('_', '-')}-put", f"(at {' '.join(map(alone, g))} : ℕ)", "at", steps, f"puts b at {at} {bytes_of(g, alone)}", "")
+        out += chain(f"{stored_by(g)[4:]}_put", f"(at {' '.join(map(alone, g))} : ℕ)", "at", steps, f"puts b at {at} {bytes_of(g, alone)}", "")
     parts = lambda gs, val: [(g[0][3], bytes_of(g, val)) for g in gs]
     plain = [x for x in t.numbers if x[1] is None]
-    out += chain(f"{t.array[0][0]}-put", f"(at {' '.join(map(alone, t.array))} : ℕ)", "at", parts(array, alone), f"puts b at {t.array[0][3]} {bytes_of(t.array, alone)}", "")
-    out += chain(f"{t.name}-fields-put", f"(at {' '.join(map(alone, plain))} : ℕ)", "at", parts(fields, alone), f"puts b at 0 {bytes_of(plain, alone)}", "")
-    return out + chain(f"{t.name}-put", f"(i at : ℕ) (r : {t.struct})", "at", parts([plain, t.array], value), f"put{t.cap} b i r", f"put{t.cap}", f"{t.name}Start i")
+    out += chain(f"{t.array[0][0]}_put", f"(at {' '.join(map(alone, t.array))} : ℕ)", "at", parts(array, alone), f"puts b at {t.array[0][3]} {bytes_of(t.array, alone)}", "")
+    out += chain(f"{t.name}_fields_put", f"(at {' '.join(map(alone, plain))} : ℕ)", "at", parts(fields, alone), f"puts b at 0 {bytes_of(plain, alone)}", "")
+    return out + chain(f"{t.name}_put", f"(i at : ℕ) (r : {t.struct})", "at", parts([plain, t.array], value), f"put_{t.name} b i r", f"put_{t.name}", f"{t.name}_start i")
 head = [(c, None, 1, j) for j, c in enumerate("xyzu")]
-law += chain("head-put", "(at x y z u : ℕ)", "at", [(j, "", c) for c, _, _, j in head], "puts b at 0 " + bytes_of(head, lambda x: x[0]), "")
-law += chain("pair-put", "(at x y : ℕ)", "at", [(j, "", c) for c, _, _, j in head[:2]], "puts b at 0 " + bytes_of(head[:2], lambda x: x[0]), "")
+law += chain("head_put", "(at x y z u : ℕ)", "at", [(j, "", c) for c, _, _, j in head], "puts b at 0 " + bytes_of(head, lambda x: x[0]), "")
+law += chain("pair_put", "(at x y : ℕ)", "at", [(j, "", c) for c, _, _, j in head[:2]], "puts b at 0 " + bytes_of(head[:2], lambda x: x[0]), "")
 for s, n, places, quota, fields, nums, size, at0 in layout:
     steps, rest = [], list(nums)
     t = next(t for t in EVERY if t.name == n)
@@ -262,60 +260,31 @@ for s, n, places, quota, fields, nums, size, at0 in layout:
     days = [w for f, k, w, j in rest[-2:]] == [4, 4] and rest[-2][0] == "first"
     for f, k, w, j in rest[:-2] if days else rest:
         if k is None:
-            steps.append((j, "", f"r .{f}") if w == 1 else (j, f"(digits {W[w]} (r .{f}))"))
+            steps.append((j, "", f"r.{f}") if w == 1 else (j, f"(digits {W[w]} r.{f})"))
     arr = [x for x in nums if x[1] is not None]
     for half in (arr[:3], arr[3:6], arr[6:]) if arr else ():
         v = lambda x: f"x{x[1]}"
-        law += chain(f"values-{half[0][1]}-put", f"({' '.join(map(v, half))} at : ℕ)", "at", [(x[3], f"(digits {W[x[2]]} {v(x)})") for x in half], f"puts b at {half[0][3]} " + bytes_of(half, v), "")
+        law += chain(f"values_{half[0][1]}_put", f"({' '.join(map(v, half))} at : ℕ)", "at", [(x[3], f"(digits {W[x[2]]} {v(x)})") for x in half], f"puts b at {half[0][3]} " + bytes_of(half, v), "")
         steps.append((half[0][3], bytes_of(half, val)))
     if days:
         steps.append((rest[-2][3], bytes_of(rest[-2:], val)))
-    law += chain(f"{n}-put", f"(i at : ℕ) (r : {s})", "at", steps, f"put{n.capitalize()} b i r", f"put{n.capitalize()}", f"{n}Start i")
+    law += chain(f"{n}_put", f"(i at : ℕ) (r : {s})", "at", steps, f"put_{n} b i r", f"put_{n}", f"{n}_start i")
 write(f"{S}/proofs/Storing.antt", law)
 
 # ---- whose a place is, and its record
+def answered(function, uses, unfold, law):
+    """the answer to a function's one goal, by a law"""
+    write(f"{C}/proofs/{function}/Answers.antt", f"""-- `places::{function}` meets its contract. Assumes nothing.
+{uses}use Rattle.places.proofs.{function}.Goals as goal
+
+pub returns : goal.returns
+{unfold}returns c = search {law}
+""")
+
 for t in EVERY:
     n = t.name
-    write(f"{C}/proofs/{n}_csd/Proof.antt", f"""-- `places::{n}_csd` meets its contract. Assumes nothing.
-use borrow.Author.Needs.{{needs}}
-use Rattle·places·specs.specs.Layout.{{{n}At}}
-use Rattle·places·proofs.proofs.Numbers.{{byte-read}}
-use Rattle·places·proofs.proofs.{n}_csd.Statement.{{statement}}
-use Rattle·places·proofs.proofs.{n}_csd.Tie as tie
-
-pub {n}-csd-spec : {{M : Type 1}} → statement M
-unfolding {n}At
-{n}-csd-spec = tie.close (tie.spec
-    (λ c κs. search needs)
-    (λ c κs. search needs)
-    (λ c. search byte-read))
-""")
-    if t.long:
-        calls = "    (λ c κs. search needs)\n" * len(t.array)
-        a = t.array[0][0]
-        write(f"{C}/proofs/{a}_at/Proof.antt", f"""-- `places::{a}_at` meets its contract. Assumes nothing.
-use Rattle·places·proofs.proofs.Reading.{{{a}-read}}
-use borrow.Author.Needs.{{needs}}
-use Rattle·places·proofs.proofs.{a}_at.Statement.{{statement}}
-use Rattle·places·proofs.proofs.{a}_at.Tie as tie
-
-pub {a}-at-spec : {{M : Type 1}} → statement M
-{a}-at-spec =
-    tie.close
-    (tie.spec
-{calls}    (λ c. search {a}-read))
-""")
-    # the address, then each number, or each field and the array
-    calls = "    (λ c κs. search needs)\n" * (1 + (len(t.numbers) - len(t.array) + 1 if t.long else len(t.numbers)))
-    write(f"{C}/proofs/{n}_at/Proof.antt", f"""-- `places::{n}_at` meets its contract. Assumes nothing.
-use Rattle·places·proofs.proofs.Reading.{{{n}-read}}
-use borrow.Author.Needs.{{needs}}
-use Rattle·places·proofs.proofs.{n}_at.Statement.{{statement}}
-use Rattle·places·proofs.proofs.{n}_at.Tie as tie
-
-pub {n}-at-spec : {{M : Type 1}} → statement M
-{n}-at-spec =
-    tie.close
-    (tie.spec
-{calls}    (λ c. search {n}-read))
-""")
+    uses = f"use Rattle.places.specs.Layout.{{{n}_at}}\nuse Rattle.places.proofs.Numbers.{{byte_read}}\n"
+    answered(f"{n}_csd", uses, f"unfolding {n}_at\n", "byte_read")
+    laws = [(f"{t.array[0][0]}_at", f"{t.array[0][0]}_read"), (f"{n}_at", f"{n}_read")] if t.long else [(f"{n}_at", f"{n}_read_lem")]
+    for function, law in laws:
+        answered(function, f"use Rattle.places.proofs.Reading.{{{law}}}\n", "", law)

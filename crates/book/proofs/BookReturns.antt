@@ -48,8 +48,8 @@ module _ (b : List ℕ) (a : ℕ) (q : TypeAsk) (n i : ℕ) where
   unfolding type_hit next_type
   type_counted k d {t} x y e l c = counted_next (λ x. x.csd) (type_at b) type_places a i k e l (λ x. type_meets q (type_of x)) n c d t x y
 
-  pub type_none_left : (k : ℕ) → k ≡ type_places → k ≡ next_type b a i → i ≤ type_places → n ≡ count_below (type_hit b a q) i
-      → n ≡ count (type_meets q) (types_of a b)
+  pub type_none_left : (k : ℕ) → k ≡ type_places → k ≡ next_type b a i → i ≤ type_places
+      → n ≡ count_below (type_hit b a q) i → n ≡ count (type_meets q) (types_of a b)
   unfolding type_hit next_type types_of
   type_none_left k x e l c = rw count_lone (counted_last (λ x. x.csd) (type_at b) type_places a i k e l (λ x. type_meets q (type_of x)) n c x)
 
@@ -59,8 +59,8 @@ module _ (b : List ℕ) (a : ℕ) (q : TypeAsk) (n i : ℕ) where
 
 -- ---- rules
 
-pub rule_hit_lem : (b : List ℕ) (a k : ℕ) (q : RuleAsk) (w : M.Row) (c : ℕ) (t : Rule) (r : Bool) → c ≡ (rule_at b k).csd
-    → c ≡ a → t ≡ rule_at b k → r ≡ rule_meets q w (rule_of t) → r ≡ rule_hit b a q w k
+pub rule_hit_lem : (b : List ℕ) (a k : ℕ) (q : RuleAsk) (w : M.Row) (c : ℕ) (t : Rule) (r : Bool)
+    → c ≡ (rule_at b k).csd → c ≡ a → t ≡ rule_at b k → r ≡ rule_meets q w (rule_of t) → r ≡ rule_hit b a q w k
 unfolding rule_hit
 rule_hit_lem b a k q w c t r e f g h = hit (λ x. x.csd) (λ x. rule_meets q w (rule_of x)) a t (rule_at b k) c r e f g h
 
@@ -90,8 +90,8 @@ module _ (b : List ℕ) (a : ℕ) (q : RuleAsk) (w : M.Row) (n i : ℕ) where
 
 -- ---- rows
 
-pub row_hit_lem : (b : List ℕ) (a k : ℕ) (q : RowAsk) (w : M.Row) (c : ℕ) (t : Row) (r : Bool) → c ≡ (row_at b k).csd → c ≡ a
-    → t ≡ row_at b k → r ≡ row_meets q w (row_of t) → r ≡ row_hit b a q w k
+pub row_hit_lem : (b : List ℕ) (a k : ℕ) (q : RowAsk) (w : M.Row) (c : ℕ) (t : Row) (r : Bool) → c ≡ (row_at b k).csd
+    → c ≡ a → t ≡ row_at b k → r ≡ row_meets q w (row_of t) → r ≡ row_hit b a q w k
 unfolding row_hit
 row_hit_lem b a k q w c t r e f g h = hit (λ x. x.csd) (λ x. row_meets q w (row_of x)) a t (row_at b k) c r e f g h
 
@@ -110,8 +110,8 @@ module _ (b : List ℕ) (a : ℕ) (q : RowAsk) (w : M.Row) (n i : ℕ) where
   unfolding row_hit next_row
   row_counted k d {t} x y e l c = counted_next (λ x. x.csd) (row_at b) row_places a i k e l (λ x. row_meets q w (row_of x)) n c d t x y
 
-  pub row_none_left : (k : ℕ) → k ≡ row_places → k ≡ next_row b a i → i ≤ row_places → n ≡ count_below (row_hit b a q w) i
-      → n ≡ count (row_meets q w) (rows_of a b)
+  pub row_none_left : (k : ℕ) → k ≡ row_places → k ≡ next_row b a i → i ≤ row_places
+      → n ≡ count_below (row_hit b a q w) i → n ≡ count (row_meets q w) (rows_of a b)
   unfolding row_hit next_row rows_of
   row_none_left k x e l c = rw count_lone (counted_last (λ x. x.csd) (row_at b) row_places a i k e l (λ x. row_meets q w (row_of x)) n c x)
 
@@ -121,8 +121,8 @@ module _ (b : List ℕ) (a : ℕ) (q : RowAsk) (w : M.Row) (n i : ℕ) where
 
 -- ---- periods
 
-pub period_hit_lem : (b : List ℕ) (a k : ℕ) (q : PeriodAsk) (c : ℕ) (t : Period) (r : Bool) → c ≡ (period_at b k).csd → c ≡ a
-    → t ≡ period_at b k → r ≡ period_meets q (period_of t) → r ≡ period_hit b a q k
+pub period_hit_lem : (b : List ℕ) (a k : ℕ) (q : PeriodAsk) (c : ℕ) (t : Period) (r : Bool) → c ≡ (period_at b k).csd
+    → c ≡ a → t ≡ period_at b k → r ≡ period_meets q (period_of t) → r ≡ period_hit b a q k
 unfolding period_hit
 period_hit_lem b a k q c t r e f g h = hit (λ x. x.csd) (λ x. period_meets q (period_of x)) a t (period_at b k) c r e f g h
 
@@ -131,7 +131,8 @@ pub period_miss : (b : List ℕ) (a k : ℕ) (q : PeriodAsk) (c : ℕ) → c ≡
 unfolding period_hit
 period_miss b a k q c e f = miss (λ x. x.csd) (λ x. period_meets q (period_of x)) a (period_at b k) c e f
 
-pub period_between : (b : List ℕ) (a i k : ℕ) → k ≡ next_period b a i → i ≤ period_places → (i ≤ k) × (k ≤ period_places)
+pub period_between : (b : List ℕ) (a i k : ℕ) → k ≡ next_period b a i → i ≤ period_places
+    → (i ≤ k) × (k ≤ period_places)
 unfolding next_period
 period_between b a i k e l = next_within _ period_places i k e l
 
@@ -146,6 +147,7 @@ module _ (b : List ℕ) (a : ℕ) (q : PeriodAsk) (n i : ℕ) where
   unfolding period_hit next_period periods_of
   period_none_left k x e l c = rw count_lone (counted_last (λ x. x.csd) (period_at b) period_places a i k e l (λ x. period_meets q (period_of x)) n c x)
 
-  pub period_all : i ≡ period_places → n ≡ count_below (period_hit b a q) i → n ≡ count (period_meets q) (periods_of a b)
+  pub period_all : i ≡ period_places → n ≡ count_below (period_hit b a q) i
+      → n ≡ count (period_meets q) (periods_of a b)
   unfolding period_hit periods_of
   period_all x c = rw count_lone (rw x at c)

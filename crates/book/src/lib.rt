@@ -1,6 +1,7 @@
 // The lent book: the lone book of each depository, counting and finding in it, emptying. The functions over the places
 // of each table are written by tools/loops.py.
 #![tactic(auto)]
+
 ghost use Rattle.std.specs.Prelude.{◌≡◌, ◌≤◌};
 ghost use Rattle.tables.specs.Count.{count};
 ghost use Rattle.places.specs.Layout.{type_places, rule_places, row_places, period_places};

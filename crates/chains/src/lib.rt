@@ -1,6 +1,7 @@
 // Places of a table in chains, for any table: tables without an entry, each in a function of its own, so that no proof
 // shows its cells. What chains are and their laws: specs/Chains.antt, proofs/.
 #![tactic(auto)]
+
 ghost use Rattle.tables.specs.Keyed.{Blank};
 ghost use Rattle.chains.specs.Sizes.{owners, buckets, most_places};
 

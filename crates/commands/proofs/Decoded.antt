@@ -20,7 +20,6 @@ use Rattle.places.specs.declared.Period.{Period}
 use Rattle.commands.specs.Asked.{asked_by, asked, row_on, period_on, what_of, row_beside, coded, command_on, or_question, letter_for, command_from}
 use Rattle.commands.specs.declared.Question.{Question}
 use Rattle.commands.specs.declared.What.{What}
-use Rattle.commands.specs.declared.What.TheVariants as What
 use Rattle.commands.specs.declared.Command.{Command}
 
 -- ---- each letter

@@ -2,13 +2,11 @@
 use Prim.Native.Nat.{ℕ, ◌%◌, ◌<◌}
 use mathlib.Core.Path.{◌≡◌, refl, ap, sym, ◌∙◌}
 use mathlib.Core.Bool.{true}
-use mathlib.Core.List.{List, [], ◌∷◌}
+use mathlib.Core.List.{List, ◌∷◌}
 use mathlib.Core.Option.{Option, some, none}
 use native.Mathlib.Omega.{arith}
 use lib.ListN.{length, get_or}
 use borrow.Author.Tests.{leb-true}
-use denote.Enum.Declared.{tag_of}
-use types.Run.{OneOf, miss}
 use Rattle.tables.proofs.Counts.{ands}
 use Rattle.meaning.specs.Fields.{within}
 use Rattle.meaning.specs.Forms.{Form, holds, holds_all, day, csd_form, type_form, object_form, sequence_form, Letter, Shape, shapes, shape_t, shape_e, shape_r, shape_o, shape_d, shape_m, shape_n, shape_a, shape_z, shape_q_wishes, shape_q}
@@ -19,11 +17,9 @@ use Rattle.meaning.proofs.Shapes.{Ranged, by_rows}
 use Rattle.meaning.proofs.Ranges.{holds_at}
 use Rattle.records.specs.Said.{type_of, rule_of, row_of, period_of}
 use Rattle.places.specs.declared.Row.{Row}
-use Rattle.commands.specs.contracts.What.{the_type}
 use Rattle.commands.specs.Asked.{question_of, asked_by, asked, question_asked, question_on, what_of, row_beside, coded}
 use Rattle.commands.specs.declared.Question.{Question}
 use Rattle.commands.specs.declared.What.{What}
-use Rattle.commands.specs.declared.What.TheVariants as What
 
 -- The numbers of a key: type, object and sequence.
 abbrev Key : ℕ → ℕ → ℕ → Type 0
@@ -98,8 +94,8 @@ asked_question d w (What.AddPeriod p) = refl
 asked_question d w (What.EndPeriod p) = refl
 asked_question d w (What.Ask q x) = refl
 
--- What the code's test for a question leaves, by the places of the others in the enum, asks no question.
-pub not_asked : (x : What) → OneOf (0 ∷ 1 ∷ 2 ∷ 3 ∷ 4 ∷ 5 ∷ 6 ∷ 7 ∷ 8 ∷ []) (tag_of the_type x) → question_asked x ≡ none
+-- What the code's test for a question leaves asks no question.
+pub not_asked : (x : What) → ((q : Question) (w : Wishes) → x ≡ What.Ask q w → ⊥) → question_asked x ≡ none
 not_asked (What.AddType t) k = refl
 not_asked (What.EndType number object last) k = refl
 not_asked (What.AddRule r) k = refl
@@ -109,7 +105,7 @@ not_asked What.AddRow k = refl
 not_asked What.DeleteRow k = refl
 not_asked (What.AddPeriod p) k = refl
 not_asked (What.EndPeriod p) k = refl
-not_asked (What.Ask q x) k = absurd (miss (0 ∷ 1 ∷ 2 ∷ 3 ∷ 4 ∷ 5 ∷ 6 ∷ 7 ∷ 8 ∷ []) 9 tt k)
+not_asked (What.Ask q x) k = absurd (k q x refl)
 
 -- The question of a command whose one-byte fields are below 256 is coded as itself.
 pub question_same : (c d : ℕ) (k : M.Command) → Narrow d k → as_meant (as_on c (question_in k)) ≡ question_in k

@@ -13,7 +13,6 @@ use Rattle.places.specs.declared.Period.{Period}
 use Rattle.records.specs.Said.{type_of, rule_of, row_of, period_of}
 use Rattle.commands.specs.declared.Question.{Question}
 use Rattle.commands.specs.declared.What.{What}
-use Rattle.commands.specs.declared.What.TheVariants as What
 use Rattle.commands.specs.declared.Command.{Command}
 
 -- ---- what a command asks

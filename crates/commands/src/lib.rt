@@ -1,6 +1,7 @@
 // What a line asks, by name (document 01, the table of letters; document 02, request b). The letters' module makes it
 // of a line's letter and numbers.
 #![tactic(auto)]
+
 mod letters;
 
 ghost use Rattle.std.specs.Prelude.{◌≡◌};

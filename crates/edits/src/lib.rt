@@ -1,5 +1,6 @@
 // The nine edits on the lent book: what an accepted edit leaves.
 #![tactic(auto)]
+
 ghost use Rattle.std.specs.Prelude.{◌≡◌};
 ghost use Rattle.records.specs.Said.{type_of, rule_of, row_of, period_of};
 ghost use Rattle.places.specs.Layout.{row_places};

@@ -24,7 +24,7 @@ use Rattle.commands.specs.declared.Question.{Question}
 use Rattle.matching.proofs.Ranged.{ranged}
 use Rattle.newrules.proofs.NewRight.{type_low}
 use Rattle.judge.specs.Stages.{type_numbers, signs_matched, type_exempted, types_exempted}
-use Rattle.judge.specs.Within.{rows_within, exempted_within, every_type, ExemptedWithin}
+use Rattle.judge.specs.Within.{rows_within, exempted_within, ExemptedWithin}
 use Rattle.judge.proofs.RulesRight.{Marks, signs}
 use Rattle.judge.proofs.VerdictRight.{counted_right}
 

@@ -18,7 +18,6 @@ use Rattle.meaning.specs.Records.{positive}
 use Rattle.meaning.specs.Judging.{covers, matches, rule_applies, deciding}
 use Rattle.meaning.specs.Scope.{Scope, scoped}
 use Rattle.places.specs.Layout.{rule_places, rule_at}
-use Rattle.places.specs.declared.RestrictionType.{RestrictionType}
 use Rattle.records.specs.Said.{rule_of}
 use Rattle.book.specs.Lone.{rules_of, lone_book}
 use Rattle.commands.specs.Asked.{question_of}

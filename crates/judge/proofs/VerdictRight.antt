@@ -1,19 +1,18 @@
 -- Over a sound lone book, what is judged by the book's bytes is the written meaning's verdict; by a scope, over the
 -- lone book in which only what the scope has is left.
-use Prim.Native.Nat.{ℕ, zero, suc, ◌<◌}
+use Prim.Native.Nat.{ℕ, zero, suc}
 use mathlib.Core.Path.{◌≡◌, refl, ap, ap₂, sym, ◌∙◌}
 use mathlib.Core.Bool.{Bool, true, false, ◌&&◌, not, cond, and-true, and-false}
 use mathlib.Core.List.{List}
 use native.Mathlib.Omega.{arith}
 use lib.Dec.{eqb}
-use borrow.Author.Tests.{eqb-true, ne_eqb, leb-true}
+use borrow.Author.Tests.{ne_eqb, leb-true}
 use Rattle.tables.specs.Count.{has}
 use Rattle.tables.specs.Below.{least_below}
 use Rattle.tables.specs.Keyed.{leasts}
-use Rattle.tables.proofs.Counts.{cases, both, ands}
-use Rattle.tables.proofs.Lists.{has_among, least_among, keep_any}
-use Rattle.tables.proofs.Below.{any_same, least_same, has_lone, least_lone}
-use Rattle.tables.proofs.Keying.{keys_all}
+use Rattle.tables.proofs.Counts.{ands}
+use Rattle.tables.proofs.Lists.{least_among, keep_any}
+use Rattle.tables.proofs.Below.{least_same, least_lone}
 use Rattle.meaning.specs.Records as M
 use Rattle.meaning.specs.Records.{positive, negative, rejection, validation_hold, party_hold}
 use Rattle.meaning.specs.Keys.{of_rule}
@@ -23,7 +22,7 @@ use Rattle.meaning.specs.Edits.{with_types, with_rules}
 use Rattle.meaning.specs.Scope as filter
 use Rattle.meaning.specs.Scope.{scoped, is_new}
 use Rattle.meaning.specs.Sound.{sound_lone}
-use Rattle.places.specs.Layout.{type_places, rule_places, type_at, rule_at}
+use Rattle.places.specs.Layout.{type_places, type_at, rule_at}
 use Rattle.places.specs.declared.RestrictionType.{RestrictionType}
 use Rattle.records.specs.Said.{type_of, rule_of}
 use Rattle.book.specs.Lone.{types_of, lone_book}
@@ -32,7 +31,7 @@ use Rattle.commands.specs.declared.Question.{Question}
 use Rattle.matching.proofs.Ranged.{Ranged, ranged}
 use Rattle.matching.proofs.MarksRight.{rows}
 use Rattle.newrules.proofs.NewRight.{new_right}
-use Rattle.judge.specs.Stages.{rule_matches, rules_matched, signs_matched, type_applies, types_named, decided, verdict, verdict_by, rows_on, judged_by}
+use Rattle.judge.specs.Stages.{rules_matched, signs_matched, type_applies, types_named, decided, verdict, verdict_by, rows_on, judged_by}
 use Rattle.judge.specs.Within.{whole, none_passed, type_passed, rows_within, judged_within, counted, scope_of, JudgedWithin}
 use Rattle.judge.specs.declared.Scope.{Scope}
 use Rattle.judge.proofs.RulesRight.{Marks, signs, decides}

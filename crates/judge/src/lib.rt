@@ -3,6 +3,7 @@
 // rules for each type that the verdict names. A pass goes from each place of the depository to its next. A scope says
 // which rules count and which types are passed over (document 02, request d).
 #![tactic(auto)]
+
 ghost use Rattle.std.specs.Prelude.{◌≡◌, true, length, get_or};
 ghost use Rattle.meaning.specs.Judging.{judged};
 ghost use Rattle.meaning.specs.Pending.{exempted};

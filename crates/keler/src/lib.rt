@@ -1,5 +1,6 @@
 // Writes the lines of the KELER set (document 01, 'The KELER set').
 #![tactic(auto)]
+
 mod set;
 
 ghost use Rattle.std.specs.Prelude.{◌≡◌, ◌&&◌};

@@ -1,5 +1,6 @@
 // Reads a line of bytes, as document 01 says. Here are the functions over bytes that its parts share.
 #![tactic(auto)]
+
 mod forms;
 mod reading;
 

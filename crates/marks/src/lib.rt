@@ -1,6 +1,7 @@
 // Tables of numbers that are addressed by key: marks, one to an entry, and flags, four to an entry, so that fewer bytes
 // are cleared. Past its end a table has neither.
 #![tactic(auto)]
+
 ghost use Rattle.std.specs.Prelude.{◌/◌, ◌%◌, ◌≡◌, cond, length, set, get_or};
 ghost use Rattle.tables.specs.Bytes.{zeros};
 ghost use Rattle.tables.specs.Keyed.{marked};

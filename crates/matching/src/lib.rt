@@ -1,6 +1,7 @@
 // Which rules have a row that matches a question (document 01, 'How a question is judged'): the codes that the
 // question's party, account and security bear, then the rows.
 #![tactic(auto)]
+
 ghost use Rattle.std.specs.Prelude.{◌≡◌, length};
 ghost use Rattle.tables.specs.Keyed.{Blank};
 ghost use Rattle.meaning.specs.Judging.{covers};

@@ -9,7 +9,6 @@ use lib.Dec.{eqb, ltb}
 use lib.ListN.{length, get_or, replicate, length-set, get_or-eq_default}
 use lib.Seq.{get_or-set_same, get_or-set_other}
 use borrow.Author.Tests.{eq-eqb, ne_eqb, ltb-true, ltb-false, not-true}
-use Rattle.tables.specs.Keyed.{marked}
 use Rattle.tables.proofs.Counts.{cases, cases_eq, both, agree}
 use Rattle.meaning.specs.Pending.{numbers_from, types_which, among, are_types}
 use Rattle.meaning.proofs.Remembered.{which_types, types_which_lem}

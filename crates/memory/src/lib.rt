@@ -1,5 +1,6 @@
 // The types that a kept instruction remembers, as 13 bytes: the bit of type t is bit t % 8 of the byte at t / 8.
 #![tactic(auto)]
+
 ghost use Rattle.std.specs.Prelude.{◌/◌, ◌%◌, ◌≡◌, not, [], ◌∷◌};
 ghost use Rattle.tables.specs.Keyed.{marked, Blank};
 ghost use Rattle.marks.specs.Flags.{weight, flag, with_flag};

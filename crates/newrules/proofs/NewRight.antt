@@ -1,11 +1,11 @@
 -- Over a sound lone book, a marked rule is one that is new, as the written meaning says, and of which a row matches.
 use Prim.Native.Nat.{ℕ, ◌<◌, ◌≤◌}
 use mathlib.Core.Path.{◌≡◌, refl, ap, ap₂, sym, ◌∙◌}
-use mathlib.Core.Bool.{Bool, true, false, ◌&&◌, ◌||◌, cond, and-true, and-false, and_comm}
+use mathlib.Core.Bool.{Bool, true, false, ◌&&◌, ◌||◌, and-true, and-false, and_comm}
 use mathlib.Core.List.{List}
 use native.Mathlib.Omega.{arith}
 use lib.Dec.{eqb, leb}
-use borrow.Author.Tests.{eqb-true, eq-eqb, ne_eqb, leb-true, leb-false, le-leb, lt-leb}
+use borrow.Author.Tests.{eqb-true, eq-eqb, ne_eqb, leb-true, leb-false, le-leb}
 use Rattle.tables.specs.Count.{count_below}
 use Rattle.tables.specs.Below.{any_below}
 use Rattle.tables.proofs.Counts.{cases, cases_eq, ands}
@@ -24,7 +24,7 @@ use Rattle.places.specs.declared.RestrictionType.{RestrictionType}
 use Rattle.places.specs.declared.Rule.{Rule}
 use Rattle.commands.specs.declared.Question.{Question}
 use Rattle.matching.specs.MatchedRows.{rule_keys}
-use Rattle.matching.proofs.Ranged.{Ranged, ranged}
+use Rattle.matching.proofs.Ranged.{ranged}
 use Rattle.newrules.specs.NewRules.{on_the_day, before, when_begun, begun_key, begun_keys, first_key, has_begun, types_begun, rule_new, ruled_key, new_matches, new_rules}
 
 -- ---- the later of two first days is the day, where the first is not after it

@@ -2,6 +2,7 @@
 // being the later of the rule's and its type's first days. A pass over the types marks which began on the day and which
 // before it; one over the rules marks, of the rules of which a row matches, those that are new.
 #![tactic(auto)]
+
 ghost use Rattle.std.specs.Prelude.{◌≡◌, length};
 ghost use Rattle.tables.specs.Keyed.{marked, Blank};
 ghost use Rattle.newrules.specs.NewRules.{begun_key, begun_keys, first_key, has_begun, mark_begun, types_begun, rule_new, new_matches, mark_new, NewMarked};

@@ -1,6 +1,7 @@
 // Which place of each table is a depository's next. The places of others, and the free ones, are passed by their first
 // byte, eight at once.
 #![tactic(auto)]
+
 ghost use Rattle.std.specs.Prelude.{◌≡◌, ◌+◌, ◌*◌, ◌<◌, ◌≤◌, eqb, length};
 ghost use Rattle.tables.specs.Bytes.{byte_at};
 ghost use Rattle.owners.specs.Next.{first_from, owned, next, Passed, next_type, next_rule, next_row, next_period, next_instruction};

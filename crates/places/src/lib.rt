@@ -1,6 +1,7 @@
 // The records of the book by value, and their reading at a place.
 // Written by tools/places.py: change that, then run tools/generate.
 #![tactic(auto)]
+
 ghost use Rattle.std.specs.Prelude.{◌≡◌, ◌+◌, ◌*◌, [], ◌∷◌};
 ghost use Rattle.tables.specs.Bytes.{byte_at, one, two, three, four, number};
 ghost use Rattle.places.specs.Layout.{type_at, zero_type, rule_at, zero_rule, row_at, zero_row, period_at, zero_period, instruction_at, zero_instruction};

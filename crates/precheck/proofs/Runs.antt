@@ -24,6 +24,7 @@ use Rattle.meaning.proofs.Names.{names_depository}
 use Rattle.meaning.proofs.Nobody.{nobody_refused}
 use Rattle.book.specs.Lone.{lone_book}
 use Rattle.book.specs.Sound.{sound}
+use Rattle.answering.specs.Taking.{bytes_by}
 use Rattle.book.proofs.Lists.{book_same, list_same}
 use Rattle.book.proofs.SameBooks.{same_books, same_then}
 use Rattle.precheck.specs.Promise.{SubmittedAs, answer_in, lone_after, left_as_found}
@@ -44,7 +45,7 @@ pub record SomeSteps (book : List ℕ) (lines : List (Sent × List ℕ)) : Type 
 pub some_steps : (book : List ℕ) (lines : List (Sent × List ℕ)) → SomeSteps book lines
 some_steps book [] = record { answers = []; after = book; steps = stop }
 some_steps book ((how, line) ∷ lines) =
-    let rest = some_steps _ lines in
+    let rest = some_steps (bytes_by how (sound book) book line) lines in
     record { answers = _ ∷ rest.answers; after = rest.after; steps = next (keeps_promise how book line) rest.steps }
 
 -- a batch, with an answer space of its size
@@ -58,10 +59,11 @@ some_batch book csd text space =
 pub some_run : SomeRun
 some_run book [] = record { answers = []; run = done }
 some_run book (single line ∷ calls) =
-    let rest = some_run _ calls in
+    let rest = some_run (bytes_by Alone (sound book) book line) calls in
     record { answers = _ ∷ rest.answers; run = sent (keeps_promise Alone book line) rest.run }
 some_run book (batch csd text size ∷ calls) =
-    let rest = some_run _ calls in
+    let taken = some_steps book (told (InBatch csd) (batch_lines text (length {A = ℕ} (replicate size 0)))) in
+    let rest = some_run taken.after calls in
     let one = some_batch book csd text (replicate size 0) in
     record { answers = _; run = batched (length-replicate {A = ℕ} size 0) one rest.run }
 

@@ -1,5 +1,6 @@
 // The ranges of days, keys, codes and letters that stand in records.
 #![tactic(auto)]
+
 ghost use Rattle.std.specs.Prelude.{◌≡◌};
 ghost use Rattle.meaning.specs.Fields.{is_capital};
 ghost use Rattle.meaning.specs.Forms.{holds, optional, code, day, is_word};

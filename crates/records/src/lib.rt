@@ -1,5 +1,6 @@
 // What is asked of one record by value, and the tests that others use.
 #![tactic(auto)]
+
 ghost use Rattle.std.specs.Prelude.{◌≡◌, ◌+◌, ◌≤◌, eqb, ltb};
 ghost use Rattle.tables.specs.Count.{bit, all_below};
 ghost use Rattle.meaning.specs.Keys.{filled, is_rule};

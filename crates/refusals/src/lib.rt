@@ -1,6 +1,7 @@
 // Refusals 6 to 10 and 13 of a command over the lent book: the first whose condition holds (document 01, 'Refused
 // lines'; document 02, request c).
 #![tactic(auto)]
+
 ghost use Rattle.std.specs.Prelude.{◌≡◌, cond, leb, length};
 ghost use Rattle.tables.specs.Count.{has};
 ghost use Rattle.meaning.specs.Records.{type_quota, rule_quota, row_quota, period_quota, add_type, end_type, add_rule, reorder, delete_rule, add_row, delete_row, add_period, end_period};

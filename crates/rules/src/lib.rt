@@ -1,6 +1,7 @@
 // The rules of a type, looked through in rising sequence (document 01, 'How a question is judged'). The work on one
 // rule is done by value, and the search over the lent slice only reads a rule, asks and returns.
 #![tactic(auto)]
+
 ghost use Rattle.std.specs.Prelude.{◌≡◌};
 ghost use Rattle.rules.specs.Search.{may_decide, first_positive};
 

@@ -2,6 +2,7 @@
 // (crates/chains/specs/Chains.antt). A place is compared only with those before it in its chain. The first place that
 // is not right ends the test, so no chain of rows or periods is longer than a quota.
 #![tactic(auto)]
+
 mod alike;
 mod buckets;
 mod fits;

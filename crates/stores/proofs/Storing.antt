@@ -74,10 +74,9 @@ unfolding puts digits bytes_of put_row
 row_put b b0 b1 b2 b3 i at r h3 h2 h1 h0 e = rw (h3, h2, h1, h0, e)
 
 pub period_put : (b b0 b1 b2 b3 : List ℕ) (i at : ℕ) (r : Period)
-    → b3 ≡ puts b2 at 7 (bytes_of (four ∷ four ∷ []) (r.first ∷ r.last ∷ []))
-    → b2 ≡ puts b1 at 5 (digits two r.code) → b1 ≡ puts b0 at 2 (digits three r.number)
-    → b0 ≡ puts b at 0 (bytes_of (one ∷ one ∷ []) (r.csd ∷ r.kind ∷ [])) → at ≡ period_start i
-    → b3 ≡ put_period b i r
+    → b3 ≡ puts b2 at 7 (bytes_of (four ∷ four ∷ []) (r.first ∷ r.last ∷ [])) → b2 ≡ puts b1 at 5 (digits two r.code)
+    → b1 ≡ puts b0 at 2 (digits three r.number) → b0 ≡ puts b at 0 (bytes_of (one ∷ one ∷ []) (r.csd ∷ r.kind ∷ []))
+    → at ≡ period_start i → b3 ≡ put_period b i r
 unfolding puts digits bytes_of put_period
 period_put b b0 b1 b2 b3 i at r h3 h2 h1 h0 e = rw (h3, h2, h1, h0, e)
 

@@ -1,6 +1,7 @@
 // Storing of a record by value at a place of the book.
 // Written by tools/places.py: change that, then run tools/generate.
 #![tactic(auto)]
+
 ghost use Rattle.std.specs.Prelude.{◌≡◌, ◌+◌, set, get_or, [], ◌∷◌};
 ghost use Rattle.tables.specs.Bytes.{one, two, three, four, digits, bytes_of, puts};
 ghost use Rattle.places.specs.Layout.{put_type, put_rule, put_row, put_period, put_instruction};

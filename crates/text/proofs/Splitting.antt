@@ -11,7 +11,7 @@ use Rattle.tables.proofs.Counts.{cases}
 use Rattle.meaning.specs.Text.{place}
 use Rattle.meaning.specs.Desk.{lines_of}
 use Rattle.text.specs.Parts.{span_from, Splits}
-use Rattle.fields.proofs.Cutting.{next, place_bound}
+use Rattle.fields.proofs.Cutting.{place_bound}
 
 first_line : (c : ℕ) (cs : List ℕ) → lines_of (c ∷ cs) ≡ take (place 10 (c ∷ cs)) (c ∷ cs) ∷ lines_of (drop (suc (place 10 (c ∷ cs))) (c ∷ cs))
 unfolding lines_of

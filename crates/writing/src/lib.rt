@@ -1,6 +1,7 @@
 // The one writer: bytes, numbers, words and fields put one after the other into a fixed space by value, and a line
 // written from a row of the table of shapes and its numbers.
 #![tactic(auto)]
+
 mod bytes;
 mod forms;
 mod whole;

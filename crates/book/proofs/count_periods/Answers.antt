@@ -2,7 +2,6 @@
 -- Written by tools/loops.py: change that, then run tools/generate.
 use Rattle.tables.proofs.Counts.{count_none}
 use Rattle.book.proofs.BookReturns.{period_between, period_counted, period_none_left, period_all}
-use Prim.Native.Nat.{◌-◌}
 use mathlib.Core.Path.{sym}
 use native.Mathlib.Omega.{arith}
 use borrow.Author.Rules.{rules}

@@ -2,7 +2,6 @@
 -- Written by tools/loops.py: change that, then run tools/generate.
 use Rattle.tables.proofs.Counts.{count_none}
 use Rattle.book.proofs.BookReturns.{rule_between, rule_counted, rule_none_left, rule_all}
-use Prim.Native.Nat.{◌-◌}
 use mathlib.Core.Path.{sym}
 use native.Mathlib.Omega.{arith}
 use borrow.Author.Rules.{rules}

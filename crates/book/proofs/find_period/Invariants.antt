@@ -8,7 +8,10 @@ use mathlib.Core.Path.{◌≡◌}
 use Rattle.book.proofs.find_period.Given as goal
 
 abbrev pub invariant-loop-i : goal.invariant-loop-i
-invariant-loop-i l = (l.i ≤ period_places) × (find_below period_places (period_hit l.b l.a l.q) period_places ≡ find_below period_places (period_hit l.b l.a l.q) l.i)
+invariant-loop-i l =
+    (l.i ≤ period_places)
+    × (find_below period_places (period_hit l.b l.a l.q) period_places
+    ≡ find_below period_places (period_hit l.b l.a l.q) l.i)
 
 abbrev pub decreases-loop-i : goal.decreases-loop-i
 decreases-loop-i l = l.i

@@ -1,6 +1,5 @@
 -- `fields::find` meets its contract.
 use Rattle.fields.proofs.Cutting.{found_next, found_here, found_end}
-use Prim.Native.Nat.{◌-◌}
 use mathlib.Core.Path.{refl}
 use native.Mathlib.Omega.{arith}
 use Rattle.fields.proofs.find.Goals as goal

@@ -5,12 +5,12 @@ use Rattle.judge.proofs.judge.Goals as goal
 pub returns : goal.returns
 returns c =
     let both =
-        by_stages _ _ _ _ c.none_passed-none.result _ _ _ _
-        c.verdict.ensures
-        c.types_named-named.ensures
-        c.whole.ensures
-        c.none_passed-none.ensures
-        c.signs_matched-signs.ensures
-        c.mark_rules.ensures
-        c.row_space-rows.ensures
+    by_stages _ _ _ _ c.none_passed-none.result _ _ _ _
+    c.verdict.ensures
+    c.types_named-named.ensures
+    c.whole.ensures
+    c.none_passed-none.ensures
+    c.signs_matched-signs.ensures
+    c.mark_rules.ensures
+    c.row_space-rows.ensures
     in record { by_bytes = both.0; meant = both.1 }

@@ -1,5 +1,4 @@
 -- `judge::rules_listed` meets its contract. Assumes nothing.
-use Prim.Native.Nat.{◌-◌}
 use mathlib.Core.Path.{◌≡◌}
 use native.Mathlib.Omega.{arith}
 use Rattle.judge.specs.Stages.{sequences}

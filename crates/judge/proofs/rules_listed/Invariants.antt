@@ -1,6 +1,5 @@
 -- `judge::rules_listed` meets its contract. Assumes nothing.
 use Prim.Native.Nat.{◌-◌, ◌≤◌}
-use borrow.Author.Rules.{rules}
 use Rattle.tables.specs.Keyed.{marked}
 use Rattle.judge.specs.Stages.{sequences, Listed}
 use Rattle.judge.proofs.rules_listed.Given as goal

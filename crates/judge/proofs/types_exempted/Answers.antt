@@ -1,5 +1,4 @@
 -- `judge::types_exempted` meets its contract. Assumes nothing.
-use Prim.Native.Nat.{◌-◌}
 use mathlib.Core.Path.{◌≡◌, refl}
 use native.Mathlib.Omega.{arith}
 use Rattle.tables.proofs.Keying.{keyed_none, keyed_marks}

@@ -1,5 +1,4 @@
 -- `keler::put` meets its contract.
-use Prim.Native.Nat.{◌-◌}
 use native.Mathlib.Omega.{arith}
 use Rattle.keler.proofs.Stepping.{put_start, put_next, put_end}
 use Rattle.keler.proofs.put.Goals as goal

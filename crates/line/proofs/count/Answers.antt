@@ -1,5 +1,4 @@
 -- `line::count` meets its contract.
-use Prim.Native.Nat.{◌-◌}
 use native.Mathlib.Omega.{arith}
 use Rattle.line.proofs.Loops.{count_comma, count_other, count_end}
 use Rattle.line.proofs.count.Goals as goal

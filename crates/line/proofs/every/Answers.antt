@@ -1,5 +1,4 @@
 -- `line::every` meets its contract.
-use Prim.Native.Nat.{◌-◌}
 use mathlib.Core.Path.{refl}
 use native.Mathlib.Omega.{arith}
 use Rattle.line.proofs.Loops.{every_next, every_end}

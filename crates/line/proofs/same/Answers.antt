@@ -1,5 +1,4 @@
 -- `line::same` meets its contract.
-use Prim.Native.Nat.{◌-◌}
 use mathlib.Core.Path.{refl}
 use native.Mathlib.Omega.{arith}
 use Rattle.line.proofs.Loops.{same_next, same_end, same_length}

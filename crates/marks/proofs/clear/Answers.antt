@@ -4,7 +4,6 @@ use lib.ListN.{length, length-set}
 use lib.Seq.{drop-length}
 use mathlib.Core.List.{append-nil}
 use borrow.Author.Fill.{fill_none, fill_more}
-use Prim.Native.Nat.{◌-◌}
 use mathlib.Core.Path.{◌≡◌}
 use native.Mathlib.Omega.{arith}
 use borrow.Author.Rules.{rules}

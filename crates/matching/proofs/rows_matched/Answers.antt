@@ -1,5 +1,4 @@
 -- `matching::rows_matched` meets its contract. Assumes nothing.
-use Prim.Native.Nat.{◌-◌}
 use mathlib.Core.Path.{◌≡◌}
 use native.Mathlib.Omega.{arith}
 use Rattle.tables.proofs.Keying.{keyed_none}

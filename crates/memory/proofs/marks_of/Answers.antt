@@ -1,5 +1,4 @@
 -- `memory::marks_of` meets its contract. Assumes nothing.
-use Prim.Native.Nat.{◌-◌}
 use native.Mathlib.Omega.{arith}
 use Rattle.memory.proofs.Bits.{marks_none, marks_more, marks_end}
 use Rattle.memory.proofs.marks_of.Goals as goal

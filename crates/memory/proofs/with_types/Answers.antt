@@ -1,5 +1,4 @@
 -- `memory::with_types` meets its contract. Assumes nothing.
-use Prim.Native.Nat.{◌-◌}
 use native.Mathlib.Omega.{arith}
 use borrow.Author.Rules.{rules}
 use Rattle.memory.proofs.Bits.{types_none, types_more, types_end}

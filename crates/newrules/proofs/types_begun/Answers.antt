@@ -1,5 +1,4 @@
 -- `newrules::types_begun` meets its contract. Assumes nothing.
-use Prim.Native.Nat.{◌-◌}
 use mathlib.Core.Path.{◌≡◌, refl}
 use native.Mathlib.Omega.{arith}
 use Rattle.tables.proofs.Keying.{keyed_none, keyed_marks}

@@ -1,5 +1,4 @@
 -- `owners::next` meets its contract. Assumes nothing.
-use Prim.Native.Nat.{◌-◌}
 use native.Mathlib.Omega.{arith}
 use Rattle.owners.proofs.Finding.{own_place, other_place, passed_more, next_at, next_none}
 use Rattle.owners.proofs.next.Goals as goal
@@ -19,12 +18,11 @@ pub loop-k-smaller : goal.loop-k-smaller
 loop-k-smaller c = omega arith
 
 pub loop-k-preserved : goal.loop-k-preserved
-loop-k-preserved c =
-    (
-      omega arith,
-      passed_more _ _ _ c.loop-k.invariant.1
-          (other_place c.args.b.now _ _ _ _ _ _ c.byte_at.ensures c.address.ensures c.if-byte_at-a.false),
-    )
+loop-k-preserved c = (
+  omega arith,
+  passed_more _ _ _ c.loop-k.invariant.1
+      (other_place c.args.b.now _ _ _ _ _ _ c.byte_at.ensures c.address.ensures c.if-byte_at-a.false),
+)
 
 pub returns : goal.returns
 returns c = next_none _ _ _ _ (omega arith) c.loop-k.invariant.1

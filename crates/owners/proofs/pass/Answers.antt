@@ -1,5 +1,4 @@
 -- `owners::pass` meets its contract. Assumes nothing.
-use Prim.Native.Nat.{◌-◌}
 use mathlib.Core.Path.{◌≡◌}
 use native.Mathlib.Omega.{arith}
 use Rattle.owners.proofs.Finding.{passed_none, passed_on}

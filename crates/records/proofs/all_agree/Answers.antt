@@ -2,7 +2,6 @@
 -- nothing.
 use Rattle.tables.proofs.Counts.{all_none, all_more}
 use Rattle.records.specs.Criteria.{agrees}
-use Prim.Native.Nat.{◌-◌}
 use mathlib.Core.Path.{◌≡◌, sym}
 use native.Mathlib.Omega.{arith}
 use borrow.Author.Rules.{rules}

@@ -1,5 +1,4 @@
 -- `records::first_difference` meets its contract. The invariant: the values passed agree. Assumes nothing.
-use Prim.Native.Nat.{◌-◌}
 use mathlib.Core.Path.{◌≡◌}
 use native.Mathlib.Omega.{arith}
 use borrow.Author.Count.{below_more}

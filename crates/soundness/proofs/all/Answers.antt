@@ -1,5 +1,5 @@
 -- `soundness::all` meets its contract. Assumes nothing.
-use Rattle.std.proofs.Common.{◌-◌, arith}
+use Rattle.std.proofs.Common.{arith}
 use Rattle.chains.proofs.ChainPassing.{going_none, blocks_on}
 use Rattle.soundness.proofs.Passes.{all_place, all_block, all_owners, all_fail, all_end}
 use Rattle.soundness.proofs.all.Goals as goal

@@ -1,5 +1,5 @@
 -- `soundness::pass_each` meets its contract. Assumes nothing.
-use Rattle.std.proofs.Common.{◌-◌, arith, rules}
+use Rattle.std.proofs.Common.{arith, rules}
 use Rattle.chains.proofs.ChainPassing.{block_end}
 use Rattle.soundness.proofs.Passes.{block_place, block_ready, block_on, block_failed}
 use Rattle.soundness.proofs.pass_each.Goals as goal

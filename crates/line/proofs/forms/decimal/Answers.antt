@@ -1,5 +1,4 @@
 -- `line::forms::decimal` meets its contract.
-use Prim.Native.Nat.{◌-◌}
 use mathlib.Core.Path.{refl}
 use native.Mathlib.Omega.{arith}
 use Rattle.line.proofs.Loops.{decimal_next, decimal_large, decimal_end}

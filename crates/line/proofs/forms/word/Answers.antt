@@ -1,6 +1,5 @@
 -- `line::forms::word` meets its contract.
 use Rattle.line.proofs.Loops.{word_room, word_next, word_end}
-use Prim.Native.Nat.{◌-◌}
 use native.Mathlib.Omega.{arith}
 use mathlib.Core.Path.{refl}
 use Rattle.line.proofs.forms.word.Goals as goal

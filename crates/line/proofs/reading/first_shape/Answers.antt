@@ -1,5 +1,4 @@
 -- `line::reading::first_shape` meets its contract.
-use Prim.Native.Nat.{◌-◌}
 use native.Mathlib.Omega.{arith}
 use Rattle.line.proofs.ShapeRows.{sought_first, shape_here, shape_next, sought_end}
 use Rattle.line.proofs.reading.first_shape.Goals as goal

@@ -1,5 +1,4 @@
 -- `line::reading::has_letter` meets its contract.
-use Prim.Native.Nat.{◌-◌}
 use native.Mathlib.Omega.{arith}
 use Rattle.line.proofs.ShapeRows.{sought_first, letter_here, letter_next, letter_none}
 use Rattle.line.proofs.reading.has_letter.Goals as goal

@@ -1,6 +1,6 @@
 -- The reader holds the line, at the end of the last field that was read; the row and what is still to be read make what
 -- the line says.
-use Rattle.std.proofs.Common.{length, ◌-◌, ◌≡◌}
+use Rattle.std.proofs.Common.{◌-◌, ◌≡◌}
 use Rattle.line.specs.Line.{values_of}
 use Rattle.line.proofs.FieldNumbers.{RowTo}
 use Rattle.line.proofs.reading.read_values.Given as goal

@@ -1,5 +1,5 @@
 -- `soundness::free::count_free` meets its contract. Assumes nothing.
-use Rattle.std.proofs.Common.{◌-◌, arith}
+use Rattle.std.proofs.Common.{arith}
 use Rattle.soundness.proofs.FreeWords.{first_none, first_byte, first_few, first_more, first_at}
 use Rattle.soundness.proofs.free.count_free.Goals as goal
 

@@ -1,5 +1,5 @@
 -- `soundness::free::runs_zero` meets its contract. Assumes nothing.
-use Rattle.std.proofs.Common.{◌-◌, arith, rules}
+use Rattle.std.proofs.Common.{arith, rules}
 use Rattle.soundness.proofs.FreeWords.{runs_none, runs_more, runs_end}
 use Rattle.soundness.proofs.free.runs_zero.Goals as goal
 

@@ -1,5 +1,4 @@
 -- `writing::bytes::add_numbers` meets its contract.
-use Prim.Native.Nat.{◌-◌}
 use mathlib.Core.Path.{refl}
 use native.Mathlib.Omega.{arith}
 use Rattle.writing.proofs.Texts.{list_next, list_end}

@@ -1,5 +1,4 @@
 -- `writing::whole::add_fields` meets its contract.
-use Prim.Native.Nat.{◌-◌}
 use native.Mathlib.Omega.{arith}
 use Rattle.writing.proofs.LineTexts.{fields_start, fields_next, fields_end}
 use Rattle.writing.proofs.whole.add_fields.Goals as goal
