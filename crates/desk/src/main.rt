@@ -226,7 +226,8 @@ fn answer_all<R: Read>(
         if step.status != DONE {
             return step.status;
         }
-        if piece.bytes == 0 {
+        let is_end = piece.bytes == 0;
+        if is_end {
             return DONE;
         }
         desk = step.desk;
