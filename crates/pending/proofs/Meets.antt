@@ -1,21 +1,21 @@
 -- What the code makes of one instruction is what the written meaning does.
 use Prim.Native.Nat.{ℕ}
-use mathlib.Core.Path.{◌≡◌, refl, ap, ap₂, sym, ◌∙◌, fun_ext}
-use mathlib.Core.Bool.{Bool, true, false, not, cond, ◌||◌}
-use mathlib.Core.List.{List, []}
-use mathlib.Core.Option.{Option, some, none}
+use mathlib.Core.Path.{◌≡◌, refl, ap, ap₂, ◌∙◌, fun_ext}
+use mathlib.Core.Bool.{Bool, true, not, cond}
+use mathlib.Core.List.{List}
+use mathlib.Core.Option.{some, none}
 use lib.Dec.{eqb}
-use lib.ListN.{length, replicate}
+use lib.ListN.{replicate}
 use Rattle.tables.specs.Keyed.{marked}
 use Rattle.meaning.specs.Records as M
 use Rattle.meaning.specs.Records.{validation_hold, party_hold}
 use Rattle.meaning.specs.Judging.{judged}
-use Rattle.meaning.specs.Scope.{scoped, only_new}
+use Rattle.meaning.specs.Scope.{scoped}
 use Rattle.meaning.specs.Sound.{sound_lone}
-use Rattle.meaning.specs.Pending.{among, types_which, held_since, is_held, since, asking, exempted, at_start, met, fresh, entered, start_verdict, start_exempted, started, released}
+use Rattle.meaning.specs.Pending.{held_since, is_held, since, asking, met, fresh, entered, start_verdict, start_exempted, started, released}
 use Rattle.meaning.specs.declared.Verdict.{Verdict}
 use Rattle.meaning.specs.declared.Deciding.{Deciding}
-use Rattle.memory.specs.Remembered.{spare_clear, type_bits, with_types, types_in, all_off, bit_of}
+use Rattle.memory.specs.Remembered.{spare_clear, type_bits, with_types}
 use Rattle.memory.proofs.Remembering.{none_remembered, types_put, marks_among}
 use Rattle.places.specs.declared.Kept.{Kept}
 use Rattle.records.specs.Said.{instruction_of}
@@ -23,9 +23,8 @@ use Rattle.book.specs.Lone.{lone_book}
 use Rattle.commands.specs.Asked.{question_of}
 use Rattle.commands.specs.declared.Question.{Question}
 use Rattle.judge.specs.Stages.{judged_by}
-use Rattle.judge.specs.Within.{whole, none_passed, judged_within, exempted_within, scope_of, lone_within, lone_counted}
+use Rattle.judge.specs.Within.{whole, none_passed, judged_within, exempted_within}
 use Rattle.judge.specs.declared.Scope.{Scope}
-use Rattle.judge.specs.declared.Judgement.{Judgement}
 use Rattle.judge.proofs.VerdictRight.{judged_right, judged_within_lem}
 use Rattle.judge.proofs.ExemptedRight.{exempted_within_lem}
 use Rattle.judge.proofs.Starting.{whole_judged, whole_exempted, at_start_lem}

@@ -1,6 +1,7 @@
 // What S, W and L make of one kept instruction (document 02, request d), over the lent book. The instruction comes and
 // goes by value; nothing is stored here, and no line is read as S, W or L yet.
 #![tactic(auto)]
+
 ghost use Rattle.std.specs.Prelude.{◌≡◌, true};
 ghost use Rattle.tables.specs.Keyed.{marked};
 ghost use Rattle.meaning.specs.Pending.{since, released, started};
