@@ -24,7 +24,6 @@ use Rattle.meaning.specs.declared.Wishes.{Wishes}
 use Rattle.commands.specs.Asked.{asked, question_asked, question_of}
 use Rattle.commands.specs.declared.Question.{Question}
 use Rattle.commands.specs.declared.What.{What}
-use Rattle.commands.specs.declared.What.TheVariants as What
 use Rattle.commands.specs.declared.Command.{Command}
 use Rattle.commands.proofs.Narrow.{as_meant, asked_question}
 use Rattle.book.specs.Lone.{lone_book}

@@ -1,6 +1,7 @@
 // What is answered to a line over a book of which it is known whether it is sound. `precheck::submit` finds that out
 // for each line, `lines` once for many, `batches` once for a batch.
 #![tactic(auto)]
+
 ghost use Rattle.std.specs.Prelude.{◌≡◌};
 ghost use Rattle.meaning.specs.Lone.{elsewhere};
 ghost use Rattle.answering.specs.Taking.{Took, Answers};

@@ -1,6 +1,7 @@
 // A batch: the lines of a text from one depository, answered one by one over a lent book, each answer in a space of its
 // own.
 #![tactic(auto)]
+
 ghost use Rattle.std.specs.Prelude.{◌≡◌, ◌+◌, ◌*◌, ◌≤◌, min, length};
 ghost use Rattle.meaning.specs.Desk.{lines_of};
 ghost use Rattle.meaning.specs.Batch.{width, most, fits};

@@ -1,6 +1,7 @@
 // A text of lines that comes in pieces: its ended lines are answered one by one over a lent book, and the line that is
 // begun is kept for the next piece.
 #![tactic(auto)]
+
 ghost use Rattle.std.specs.Prelude.{◌≡◌, ◌+◌, ◌-◌, ◌*◌, ◌≤◌, min, leb, length};
 ghost use Rattle.lines.specs.Many.{laid, Put, Turn, AnsweredBy, Answered};
 ghost use Rattle.lines.specs.Sent.{SentLines};

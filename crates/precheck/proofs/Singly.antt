@@ -8,7 +8,6 @@ use Rattle.tables.specs.Count.{keep}
 use Rattle.tables.proofs.Counts.{cases}
 use Rattle.meaning.specs.Batch.{batch_result, batch_lines, space_after}
 use Rattle.meaning.specs.Reading.{reading}
-use Rattle.meaning.specs.Records as M
 use Rattle.meaning.specs.SameBook.{SameBook}
 use Rattle.meaning.specs.Lone.{step_sent, step, names, depository}
 use Rattle.meaning.specs.declared.Answer.{Answer}

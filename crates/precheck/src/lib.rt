@@ -1,6 +1,7 @@
 // The pre-check's entry: a lent book is emptied, and a line is submitted to it. Nothing is required of the bytes of
 // either.
 #![tactic(auto)]
+
 ghost use Rattle.book.specs.Emptied.{Emptied};
 ghost use Rattle.precheck.specs.Promise.{Submitted};
 

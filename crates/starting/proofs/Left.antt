@@ -1,17 +1,15 @@
 -- What W leaves of the kept instructions of each depository, and of all other records.
-use Prim.Native.Nat.{ℕ, zero, suc, ◌+◌, ◌≤◌, ◌<◌}
-use mathlib.Core.Path.{◌≡◌, refl, ap, sym, subst, ◌∙◌}
+use Prim.Native.Nat.{ℕ, zero, suc, ◌≤◌, ◌<◌}
+use mathlib.Core.Path.{◌≡◌, refl, ap, sym, ◌∙◌}
 use mathlib.Core.Bool.{Bool, true, false, cond}
 use mathlib.Core.List.{List, [], ◌∷◌}
 use mathlib.Core.Logic.{inr}
-use mathlib.Core.Option.{Option, some, none}
+use mathlib.Core.Option.{some, none}
 use native.Mathlib.Omega.{arith}
-use lib.Dec.{eqb}
 use lib.ListN.{length, get_or}
-use borrow.Author.Tests.{eq-eqb, ne_eqb, eqb-true}
+use borrow.Author.Tests.{eq-eqb, ne_eqb}
 use Rattle.tables.specs.Count.{count, every, sift, or_none}
-use Rattle.tables.specs.Bytes.{byte_at}
-use Rattle.tables.specs.Table.{Table, end, vacant, list_of, Lies, Fits, Apart}
+use Rattle.tables.specs.Table.{Fits, Apart}
 use Rattle.tables.specs.Sweep.{sweep_to}
 use Rattle.tables.proofs.Counts.{cases, and_l, ands}
 use Rattle.tables.proofs.Lone.{every_at}
@@ -20,26 +18,26 @@ use Rattle.tables.proofs.Swept.{of_owner, list_apart, list_sifted, list_other}
 use Rattle.meaning.specs.Records as M
 use Rattle.meaning.specs.Forms.{holds, day as day_form}
 use Rattle.meaning.specs.Keys.{is_kept}
-use Rattle.meaning.specs.Sound.{kept_fits, type_fits, sound_lone}
+use Rattle.meaning.specs.Sound.{kept_fits, sound_lone}
 use Rattle.meaning.specs.Pending.{are_types, started}
 use Rattle.meaning.proofs.Good.{good_of_sound}
 use Rattle.meaning.proofs.Listed.{Listed}
 use Rattle.meaning.proofs.KeptPending.{kept_kind, day_started}
-use Rattle.memory.specs.Remembered.{spare_clear, types_in}
+use Rattle.memory.specs.Remembered.{types_in}
 use Rattle.memory.proofs.Remembering.{Bytes, are_types_lem, bytes_put, length_put}
-use Rattle.places.specs.Layout.{book_size, instruction_base, instruction_places, instruction_at, zero_instruction}
+use Rattle.places.specs.Layout.{instruction_places, instruction_at}
 use Rattle.places.specs.declared.Kept.{Kept}
 use Rattle.records.specs.Said.{instruction_of}
 use Rattle.records.specs.Tables.{TableName, table}
 use Rattle.records.proofs.TableFacts.{lies}
 use Rattle.records.proofs.Tables.{inside, instruction_whole}
 use Rattle.records.proofs.Holds.{instruction_hold}
-use Rattle.book.specs.Lone.{lone_book, list}
+use Rattle.book.specs.Lone.{lone_book}
 use Rattle.book.proofs.Lists.{lone_list, book_equal}
-use Rattle.pending.specs.OnBytes.{kept_with, met_by, started_by, left_of, Remembering}
+use Rattle.pending.specs.OnBytes.{met_by, started_by, left_of, Remembering}
 use Rattle.pending.specs.declared.Met.{Met}
 use Rattle.pending.proofs.Meets.{started_right}
-use Rattle.starting.specs.Days.{kept, instructions_of, place_after, start_step, start_day, Ready, Left, StartsDay}
+use Rattle.starting.specs.Days.{kept, instructions_of, start_step, start_day, Ready, StartsDay}
 use Rattle.starting.proofs.Started.{kept_lies, day_size}
 
 -- what the start of a day leaves of one instruction is in its range

@@ -1,11 +1,9 @@
 -- What the functions store, and what W leaves of the kept instructions of each depository.
-use Prim.Native.Nat.{ℕ, ◌+◌, ◌≤◌, ◌<◌}
-use mathlib.Core.Path.{◌≡◌, refl, ap, sym, ◌∙◌}
-use mathlib.Core.Bool.{Bool, true, false, cond}
+use Prim.Native.Nat.{ℕ, ◌+◌}
+use mathlib.Core.Path.{◌≡◌, refl, sym, ◌∙◌}
+use mathlib.Core.Bool.{true, false}
 use mathlib.Core.List.{List}
 use native.Mathlib.Numerals.{add-one}
-use native.Mathlib.Omega.{arith}
-use lib.Dec.{eqb}
 use lib.ListN.{length}
 use borrow.Author.Tests.{eq-eqb, ne_eqb, eqb-true}
 use Rattle.tables.specs.Count.{every}
@@ -13,12 +11,12 @@ use Rattle.tables.specs.Table.{Lies}
 use Rattle.tables.specs.Sweep.{sweep_at, sweep_to}
 use Rattle.tables.proofs.Counts.{ands}
 use Rattle.tables.proofs.Swept.{swept_size}
-use Rattle.places.specs.Layout.{instruction_places, instruction_numbers, instruction_at, put_instruction, zero_instruction}
+use Rattle.places.specs.Layout.{instruction_numbers, instruction_at, put_instruction, zero_instruction}
 use Rattle.places.specs.declared.Kept.{Kept}
 use Rattle.records.specs.Free.{all_zero}
 use Rattle.pending.specs.OnBytes.{started_by}
 use Rattle.pending.specs.declared.Met.{Met}
-use Rattle.starting.specs.Days.{kept, place_after, start_step, start_place, start_day}
+use Rattle.starting.specs.Days.{kept, place_after, start_step, start_place}
 
 -- ---- what the functions store
 

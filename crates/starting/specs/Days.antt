@@ -1,6 +1,6 @@
 -- W over the places of kept instructions, which stand behind the book of today (docs/LAYOUT.md). Stated here, proved in
 -- proofs/Left. Assumes nothing.
-use Rattle.std.specs.Prelude.{ℕ, ◌≤◌, ◌<◌, ◌≡◌, Bool, true, cond, List, length}
+use Rattle.std.specs.Prelude.{ℕ, ◌≤◌, ◌<◌, ◌≡◌, true, cond, List, length}
 use Rattle.tables.specs.Count.{every, sift}
 use Rattle.tables.specs.Bytes.{byte_at}
 use Rattle.tables.specs.Table.{Table, end, list_of}

@@ -1,6 +1,7 @@
 // W over a lent book that has the places of kept instructions behind it (document 02, request d): each instruction of
 // the depository meets the rules that are new on the day. Nothing reaches it yet.
 #![tactic(auto)]
+
 ghost use Rattle.std.specs.Prelude.{◌≡◌};
 ghost use Rattle.starting.specs.Days.{place_after, start_place, start_day};
 

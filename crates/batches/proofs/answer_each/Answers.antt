@@ -1,6 +1,5 @@
 -- `batches::answer_each` meets its contract. Assumes nothing.
 use Rattle.batches.proofs.Filling.{going_first, going_on, going_out, room_for, line_inside, comes_nearer}
-use Prim.Native.Nat.{◌-◌}
 use borrow.Author.Rules.{rules}
 use Rattle.batches.proofs.answer_each.Goals as goal
 

@@ -1,6 +1,5 @@
 -- `batches::count_lines` meets its contract. Assumes nothing.
 use Rattle.batches.proofs.Counting.{none_counted, one_counted, all_counted, enough_counted}
-use Prim.Native.Nat.{◌-◌}
 use native.Mathlib.Omega.{arith}
 use Rattle.batches.proofs.count_lines.Goals as goal
 

@@ -1,6 +1,5 @@
 -- `batches::put_answer` meets its contract. Assumes nothing.
 use Rattle.batches.proofs.Filling.{none_filled, one_filled, all_filled, inside}
-use Prim.Native.Nat.{◌-◌}
 use native.Mathlib.Omega.{arith}
 use Rattle.batches.proofs.put_answer.Goals as goal
 

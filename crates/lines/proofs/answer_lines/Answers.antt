@@ -1,6 +1,5 @@
 -- `lines::answer_lines` meets its contract. Assumes nothing.
 use Rattle.lines.proofs.Turning.{going_first, going_on, going_full, going_out, room_for, comes_nearer}
-use Prim.Native.Nat.{◌-◌}
 use Rattle.lines.proofs.answer_lines.Goals as goal
 
 pub loop-line-init : goal.loop-line-init

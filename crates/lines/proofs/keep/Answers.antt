@@ -1,6 +1,5 @@
 -- `lines::keep` meets its contract. Assumes nothing.
 use Rattle.lines.proofs.Laying.{none_moved, one_moved, all_moved, reads_inside, writes_inside}
-use Prim.Native.Nat.{◌-◌}
 use native.Mathlib.Omega.{arith}
 use borrow.Author.Rules.{rules}
 use Rattle.lines.proofs.keep.Goals as goal

@@ -1,6 +1,5 @@
 -- `lines::lay` meets its contract. Assumes nothing.
 use Rattle.lines.proofs.Laying.{none_copied, one_copied, all_copied}
-use Prim.Native.Nat.{◌-◌}
 use native.Mathlib.Omega.{arith}
 use Rattle.lines.proofs.lay.Goals as goal
 
