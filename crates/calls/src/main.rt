@@ -7,15 +7,15 @@
 mod reading;
 mod showing;
 
-ghost use Rattle.std.specs.Prelude.{◌+◌, ◌≤◌, length, IfOk};
+ghost use Rattle.std.specs.Prelude.{◌+◌, ◌≤◌, length};
 
 use batches::submit_batch;
 use places::SIZE;
 use reading::{behind_blank, decode, number_at};
 use showing::{fill, show, show_batch, show_emptied, show_space, show_unknown};
 use std::env::{Env, FillError};
+use std::fmt::Display;
 use std::fs::File;
-use std::io;
 use std::io::Read;
 use std::rt::Files;
 
@@ -28,12 +28,12 @@ const LENT: usize = 65536;
 // ---- The kinds of call. Each writes its answer.
 
 // e: empties the book.
-fn empty_book(rt: &impl Print, book: &mut [u8]) -> io::Result<()> {
+fn empty_book(rt: &impl Print, book: &mut [u8]) {
     show_emptied(rt, precheck::empty(book))
 }
 
 // l TEXT: a line, sent singly.
-fn single_line(rt: &impl Print, book: &mut [u8], call: &[u8], text: &mut [u8]) -> io::Result<()> {
+fn single_line(rt: &impl Print, book: &mut [u8], call: &[u8], text: &mut [u8]) {
     let from = behind_blank(call, 1);
     let n = decode(call, from, text);
     show(rt, precheck::submit(book, &text[..n]))
@@ -46,7 +46,7 @@ fn batch(
     call: &[u8],
     text: &mut [u8],
     lent: &mut [u8],
-) -> io::Result<()> {
+) {
     let csd = number_at(call, behind_blank(call, 1));
     let size = number_at(call, behind_blank(call, csd.end));
     let from = behind_blank(call, size.end);
@@ -61,12 +61,12 @@ fn answer_batch(
     text: &[u8],
     lent: &mut [u8],
     size: u32,
-) -> io::Result<()> {
+) {
     let n = reading::least(size, lent.len());
     let space = &mut lent[..n];
     fill(space, b'#');
     let answered = submit_batch(book, reading::csd_of(csd), text, space);
-    show_batch(rt, answered)?;
+    show_batch(rt, answered);
     show_space(rt, space)
 }
 
@@ -76,7 +76,7 @@ fn answer_call(
     call: &[u8],
     text: &mut [u8],
     lent: &mut [u8],
-) -> io::Result<()> {
+) {
     match basics::byte_at(call, 0) {
         b'e' => empty_book(rt, book),
         b'l' => single_line(rt, book, call, text),
@@ -117,7 +117,7 @@ fn answer_sent(
     call: &[u8],
     text: &mut [u8],
     lent: &mut [u8],
-) -> io::Result<()> {
+) {
     let from = behind_short(call);
     if from > 0 {
         let n = one_less(book.len());
@@ -148,19 +148,19 @@ fn answer_calls(
     calls: &[u8],
     text: &mut [u8],
     lent: &mut [u8],
-) -> io::Result<usize>
-    ensures { IfOk result (λ n. n ≤ length calls.now) }
+) -> usize
+    ensures { result ≤ length calls.now }
 {
     let mut at: usize = 0;
     while at < calls.len() {
         let end = text::next_line(calls, at).end;
         if end >= calls.len() {
-            return Ok(at);
+            return at;
         }
-        answer_sent(rt, book, &calls[at..end], text, lent)?;
+        answer_sent(rt, book, &calls[at..end], text, lent);
         at = end + 1;
     }
-    Ok(at)
+    at
 }
 
 // Moves the bytes from an index up to another to the front, and returns how many they are; none where there are none.
@@ -195,8 +195,8 @@ fn read_behind<R: Read>(
 {
     match input.read(&mut calls[held..]) {
         Ok(came) => came,
-        Err(e) => {
-            let _ = eprintln!(rt; "{name}: {e}");
+        Err(why) => {
+            failed(rt, name, why);
             0
         }
     }
@@ -210,12 +210,12 @@ fn answer_piece(
     to: usize,
     text: &mut [u8],
     lent: &mut [u8],
-) -> io::Result<usize>
+) -> usize
     requires { to ≤ length calls.old }
-    ensures { IfOk result (λ n. n ≤ length calls.new) }
+    ensures { result ≤ length calls.new }
 {
-    let begun = answer_calls(rt, book, &calls[..to], text, lent)?;
-    Ok(keep(calls, begun, to))
+    let begun = answer_calls(rt, book, &calls[..to], text, lent);
+    keep(calls, begun, to)
 }
 
 // The end of input ends a call too.
@@ -226,16 +226,16 @@ fn answer_end(
     held: usize,
     text: &mut [u8],
     lent: &mut [u8],
-) -> io::Result<()>
+)
     requires { held ≤ length calls.now }
 {
     if held == calls.len() {
-        return eprintln!(rt; "calls: a call is longer than 1048575 bytes");
+        let _ = eprintln!(rt; "calls: a call is longer than 1048575 bytes");
+        return;
     }
     if held > 0 {
-        return answer_sent(rt, book, &calls[..held], text, lent);
+        answer_sent(rt, book, &calls[..held], text, lent);
     }
-    Ok(())
 }
 
 // Answers until the end of input. A proved loop has to end, so it counts its turns up to a number that no input
@@ -248,50 +248,49 @@ fn answer_all<R: Read>(
     calls: &mut [u8],
     text: &mut [u8],
     lent: &mut [u8],
-) -> io::Result<()> {
+) {
     let mut held: usize = 0;
     for _ in 0..u64::MAX {
         let came = read_behind(rt, input, name, calls, held);
         if came == 0 {
             return answer_end(rt, book, calls, held, text, lent);
         }
-        held = answer_piece(rt, book, calls, held + came, text, lent)?;
+        held = answer_piece(rt, book, calls, held + came, text, lent);
     }
-    Ok(())
 }
 
-fn answer_input<R: Read>(rt: &(impl Print + Eprint), input: &mut R, name: &str) -> io::Result<()> {
+fn answer_input<R: Read>(rt: &(impl Print + Eprint), input: &mut R, name: &str) {
     let mut book = book_space();
     let mut calls = call_space();
     let mut text = call_space();
     let mut lent = lent_space();
-    answer_all(rt, input, name, &mut book, &mut calls, &mut text, &mut lent)
+    answer_all(rt, input, name, &mut book, &mut calls, &mut text, &mut lent);
 }
 
 // ---- The files.
 
-fn answer_file<R: Files + Print + Eprint>(rt: &R, path: &str) -> io::Result<()> {
+// Names what could not be read.
+fn failed<D: Display + Drop>(rt: &impl Eprint, what: &str, why: D) {
+    let _ = eprintln!(rt; "{what}: {why}");
+}
+
+fn answer_file<R: Files + Print + Eprint>(rt: &R, path: &str) {
     match File::open(rt, path) {
         Ok(mut file) => answer_input(rt, &mut file, path),
-        Err(e) => eprintln!(rt; "{path}: {e}"),
+        Err(why) => failed(rt, path, why),
     }
 }
 
-// The argument at an index, where it is text that fits into the space.
-fn argument<'a>(rt: &impl Env, i: usize, space: &'a mut [u8]) -> io::Result<&'a str> {
-    match rt.arg(i, space) {
-        Ok(n) => match std::str::from_utf8(&space[..n]) {
-            Ok(text) => Ok(text),
-            Err(_) => Err(io::Error::new(io::ErrorKind::InvalidData, "an argument is no text")),
-        },
-        Err(_) => Err(io::Error::new(io::ErrorKind::InvalidFilename, "an argument is too long")),
-    }
-}
-
-fn answer_argument<R: Env + Files + Print + Eprint>(rt: &R, i: usize) -> io::Result<()> {
+// Answers the file that an argument names.
+fn answer_argument<R: Env + Files + Print + Eprint>(rt: &R, i: usize) {
     let mut space = [0u8; 4096];
-    let path = argument(rt, i, &mut space)?;
-    answer_file(rt, path)
+    match rt.arg(i, &mut space) {
+        Ok(n) => match std::str::from_utf8(&space[..n]) {
+            Ok(path) => answer_file(rt, path),
+            Err(why) => failed(rt, "the name of a file", why),
+        },
+        Err(_) => failed(rt, "the name of a file", "File name too long"),
+    }
 }
 
 // Whether the program was started with an argument at an index.
@@ -303,15 +302,14 @@ fn is_given(rt: &impl Env, i: usize) -> bool {
     }
 }
 
-fn main(rt: HostRuntime) -> io::Result<()> {
+fn main(rt: HostRuntime) {
     if !is_given(&rt, 1) {
         return answer_input(&rt, &mut rt.reader(), "standard input");
     }
     for i in 1..usize::MAX {
         if !is_given(&rt, i) {
-            break;
+            return;
         }
-        answer_argument(&rt, i)?;
+        answer_argument(&rt, i);
     }
-    Ok(())
 }

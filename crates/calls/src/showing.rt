@@ -2,23 +2,31 @@
 ghost use Rattle.std.specs.Prelude.{◌≤◌, length};
 
 use meaning::{Answer, Batch};
-use std::io;
 
-// The answer to a line, as the desk prints it.
-pub(crate) fn show(rt: &impl Print, answer: Answer) -> io::Result<()> {
-    write_answer(rt, answer)?;
-    rt.write_all(b"\n")
+// Writes to standard output. The gate compares what was written, so a write that fails shows there.
+fn write(rt: &impl Print, bytes: &[u8]) {
+    let _ = rt.write_all(bytes);
 }
 
-fn write_answer(rt: &impl Print, answer: Answer) -> io::Result<()> {
+fn write_number(rt: &impl Print, n: usize) {
+    let _ = print!(rt; "{n}");
+}
+
+// The answer to a line, as the desk prints it.
+pub(crate) fn show(rt: &impl Print, answer: Answer) {
+    write_answer(rt, answer);
+    write(rt, b"\n");
+}
+
+fn write_answer(rt: &impl Print, answer: Answer) {
     let p = text::print(answer);
     let n = p.len;
     let bytes = p.bytes;
-    rt.write_all(&bytes[..n])
+    write(rt, &bytes[..n]);
 }
 
 // The answer to emptying: K, or its refusal.
-pub(crate) fn show_emptied(rt: &impl Print, refusal: u8) -> io::Result<()> {
+pub(crate) fn show_emptied(rt: &impl Print, refusal: u8) {
     if refusal == 0 {
         return show(rt, Answer::Taken);
     }
@@ -26,8 +34,8 @@ pub(crate) fn show_emptied(rt: &impl Print, refusal: u8) -> io::Result<()> {
 }
 
 // A call of no kind that is known has an answer too, so that those after it stay in their places.
-pub(crate) fn show_unknown(rt: &impl Print) -> io::Result<()> {
-    rt.write_all(b"?\n")
+pub(crate) fn show_unknown(rt: &impl Print) {
+    write(rt, b"?\n");
 }
 
 // ---- A lent answer space
@@ -41,10 +49,10 @@ pub(crate) fn fill(space: &mut [u8], byte: u8) {
 }
 
 // The number of lines, or the refusal.
-pub(crate) fn show_batch(rt: &impl Print, answered: Batch) -> io::Result<()> {
+pub(crate) fn show_batch(rt: &impl Print, answered: Batch) {
     match answered {
         Batch::Refused(n) => write_answer(rt, Answer::Refused(n)),
-        Batch::Answered(n) => print!(rt; "{n}"),
+        Batch::Answered(n) => write_number(rt, n),
     }
 }
 
@@ -82,13 +90,13 @@ fn make_readable(space: &mut [u8]) {
 }
 
 // A blank and the space without its trailing #, if anything stands there, and the answer's end.
-pub(crate) fn show_space(rt: &impl Print, space: &mut [u8]) -> io::Result<()> {
+pub(crate) fn show_space(rt: &impl Print, space: &mut [u8]) {
     let n = written(space);
     if n == 0 {
-        return rt.write_all(b"\n");
+        return write(rt, b"\n");
     }
     make_readable(space);
-    rt.write_all(b" ")?;
-    rt.write_all(&space[..n])?;
-    rt.write_all(b"\n")
+    write(rt, b" ");
+    write(rt, &space[..n]);
+    write(rt, b"\n");
 }
