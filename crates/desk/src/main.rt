@@ -59,7 +59,7 @@ fn write_out(rt: &(impl Print + Eprint), bytes: &[u8]) -> u8 {
     }
 }
 
-// A writer may tell only here that it could not keep what was written.
+// A writer with a buffer tells only here that it could not write; std's standard output has none.
 fn flush_out(rt: &(impl Print + Eprint)) -> u8 {
     match io::writer(rt).flush() {
         Ok(()) => DONE,
