@@ -40,13 +40,7 @@ fn single_line(rt: &impl Print, book: &mut [u8], call: &[u8], text: &mut [u8]) {
 }
 
 // b CSD SIZE TEXT: a batch, whose answer space is filled with # first.
-fn batch(
-    rt: &impl Print,
-    book: &mut [u8],
-    call: &[u8],
-    text: &mut [u8],
-    lent: &mut [u8],
-) {
+fn batch(rt: &impl Print, book: &mut [u8], call: &[u8], text: &mut [u8], lent: &mut [u8]) {
     let csd = number_at(call, behind_blank(call, 1));
     let size = number_at(call, behind_blank(call, csd.end));
     let from = behind_blank(call, size.end);
@@ -70,13 +64,7 @@ fn answer_batch(
     show_space(rt, space)
 }
 
-fn answer_call(
-    rt: &impl Print,
-    book: &mut [u8],
-    call: &[u8],
-    text: &mut [u8],
-    lent: &mut [u8],
-) {
+fn answer_call(rt: &impl Print, book: &mut [u8], call: &[u8], text: &mut [u8], lent: &mut [u8]) {
     match basics::byte_at(call, 0) {
         b'e' => empty_book(rt, book),
         b'l' => single_line(rt, book, call, text),
@@ -111,13 +99,7 @@ fn one_less(n: usize) -> usize
     if n == 0 { 0 } else { n - 1 }
 }
 
-fn answer_sent(
-    rt: &impl Print,
-    book: &mut [u8],
-    call: &[u8],
-    text: &mut [u8],
-    lent: &mut [u8],
-) {
+fn answer_sent(rt: &impl Print, book: &mut [u8], call: &[u8], text: &mut [u8], lent: &mut [u8]) {
     let from = behind_short(call);
     if from > 0 {
         let n = one_less(book.len());
