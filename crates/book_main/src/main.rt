@@ -4,12 +4,10 @@
 // what can be damaged alone, and 8 nothing.
 #![tactic(auto)]
 
-ghost use Rattle.std.specs.Prelude.{◌≤◌, length, IfOk};
-
 use basics::{byte_at, low, wide};
+use input::read_full;
 use places::{Period, RestrictionType, Row, Rule, SIZE};
 use std::io;
-use std::io::Read;
 use stores::{put_period, put_row, put_rule, put_type};
 
 // ---- What is written.
@@ -209,21 +207,6 @@ fn each_line(rt: &impl Print, b: &mut [u8], text: &[u8]) -> io::Result<()> {
 }
 
 // ---- The run.
-
-// Reads until the text is full or the input ends, and returns how many bytes it put at the text's start.
-fn read_full<R: Read>(input: &mut R, text: &mut [u8]) -> io::Result<usize>
-    ensures { IfOk result (λ n. n ≤ length text.new) }
-{
-    let mut held: usize = 0;
-    for _ in 0..u64::MAX {
-        let came = input.read(&mut text[held..])?;
-        if came == 0 {
-            break;
-        }
-        held += came;
-    }
-    Ok(held)
-}
 
 fn space() -> [u8; SIZE] {
     [0; SIZE]

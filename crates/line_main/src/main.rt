@@ -2,27 +2,10 @@
 // their printed forms. tools/line_vectors.py writes what it reads and must write.
 #![tactic(auto)]
 
-ghost use Rattle.std.specs.Prelude.{◌≤◌, length, IfOk};
-
 use basics::pick_byte;
+use input::read_full;
 use meaning::{Answer, Deciding, Verdict};
 use std::io;
-use std::io::Read;
-
-// Reads until the text is full or the input ends, and returns how many bytes it put at the text's start.
-fn read_full<R: Read>(input: &mut R, text: &mut [u8]) -> io::Result<usize>
-    ensures { IfOk result (λ n. n ≤ length text.new) }
-{
-    let mut held: usize = 0;
-    for _ in 0..u64::MAX {
-        let came = input.read(&mut text[held..])?;
-        if came == 0 {
-            break;
-        }
-        held += came;
-    }
-    Ok(held)
-}
 
 fn show(rt: &impl Print, line: &[u8]) -> io::Result<()> {
     let r = line::read_line(line);

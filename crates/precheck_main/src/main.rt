@@ -2,12 +2,10 @@
 // marked questions, and the exercise of docs/PROOF.md. tools/precheck_vectors.py writes what it reads and must write.
 #![tactic(auto)]
 
-ghost use Rattle.std.specs.Prelude.{◌≤◌, length, IfOk};
-
+use input::read_full;
 use meaning::Answer;
 use places::SIZE;
 use std::io;
-use std::io::Read;
 
 // Space for a book; large arrays are made in functions of their own.
 fn book_space() -> [u8; SIZE] {
@@ -16,21 +14,6 @@ fn book_space() -> [u8; SIZE] {
 
 fn text_space() -> [u8; 600000] {
     [0u8; 600000]
-}
-
-// Reads until the text is full or the input ends, and returns how many bytes it put at the text's start.
-fn read_full<R: Read>(input: &mut R, text: &mut [u8]) -> io::Result<usize>
-    ensures { IfOk result (λ n. n ≤ length text.new) }
-{
-    let mut held: usize = 0;
-    for _ in 0..u64::MAX {
-        let came = input.read(&mut text[held..])?;
-        if came == 0 {
-            break;
-        }
-        held += came;
-    }
-    Ok(held)
 }
 
 fn show(rt: &impl Print, answer: Answer) -> io::Result<()> {

@@ -1,6 +1,6 @@
--- `book_main::read_full` meets its contract.
+-- `input::read_full` meets its contract.
 use Rattle.std.proofs.Common.{◌≤◌, length}
-use Rattle.book_main.proofs.read_full.Given as goal
+use Rattle.input.proofs.read_full.Given as goal
 
 abbrev pub invariant-loop : goal.invariant-loop
 invariant-loop g l = l.held ≤ length l.text

@@ -1,0 +1,22 @@
+// Input that is read whole, for the test programs.
+#![tactic(auto)]
+
+ghost use Rattle.std.specs.Prelude.{◌≤◌, length, IfOk};
+
+use std::io;
+use std::io::Read;
+
+// Reads until the text is full or the input ends, and returns how many bytes it put at the text's start.
+pub fn read_full<R: Read>(input: &mut R, text: &mut [u8]) -> io::Result<usize>
+    ensures { IfOk result (λ n. n ≤ length text.new) }
+{
+    let mut held: usize = 0;
+    for _ in 0..u64::MAX {
+        let came = input.read(&mut text[held..])?;
+        if came == 0 {
+            break;
+        }
+        held += came;
+    }
+    Ok(held)
+}
