@@ -1,4 +1,5 @@
--- What came fits behind what is held, and the text keeps its length: named, so that a wrong count is refused for certain.
+-- What came fits behind what is held, and the text keeps its length: named, so that a wrong count is refused for
+-- certain.
 use Rattle.std.proofs.Common.{ℕ, List, ◌≡◌, ◌+◌, ◌-◌, ◌≤◌, arith, length, length-drop, take, drop}
 use Rattle.std.proofs.lemmas.List.{length-take}
 use borrow.Rule.Slice.PartMut.{same_len_mid}
