@@ -50,7 +50,7 @@ def long_store(t):
             out += f"    let v = r.{f0};\n"
         for f, k, w, j in group:
             v = f"r.{f}" if k is None else f"v[{k}]"
-            out += f"    put_{W[w]}(b, at, {j}, " + (f"wide({v})" if w == 1 and f not in t.wide else v) + ");\n"
+            out += f"    put_{W[w]}(b, at, {j}, " + (f"u32::from({v})" if w == 1 and f not in t.wide else v) + ");\n"
         out += "}\n"
     out += f"\n// The {len(t.array)} bytes of {t.array[0][0]}.\nfn put_{t.array[0][0]}(b: &mut [u8], at: u32, r: {t.struct})\n"
     out += f"    ensures {{ b.new ≡ puts b.old at {t.array[0][3]} {bytes_of(t.array, value)} }}\n{{\n"
@@ -59,42 +59,55 @@ def long_store(t):
     plain = [x for x in t.numbers if x[1] is None]
     out += f"    ensures {{ b.new ≡ puts b.old at 0 {bytes_of(plain, value)} }}\n{{\n"
     out += "".join(f"    {stored_by(g)}(b, at, r);\n" for g in fields) + "}\n"
-    out += f"\npub fn put_{t.name}(b: &mut [u8], i: u16, r: {t.struct})\n    ensures {{ b.new ≡ put_{t.name} b.old i r }}\n{{\n"
-    return out + f"    let at = address({t.struct}::START, {t.struct}::WIDTH, i);\n    put_{t.name}_fields(b, at, r);\n    put_{t.array[0][0]}(b, at, r);\n}}\n"
+    return out + opened(t) + f"        put_{t.name}_fields(b, start, self);\n        put_{t.array[0][0]}(b, start, self);\n    }}\n}}\n"
+
+def opened(t):
+    """the head of a table's impl of Store"""
+    out = f"\nimpl Store for {t.struct} {{\n    ghost shown = {{ {t.name}_numbers }};\n    ghost put = {{ put_{t.name} }};\n    ghost stores = {{ {t.name}_stores }};\n"
+    return out + "\n    fn write(self, b: &mut [u8], start: u32) {\n"
 
 layout = [(t.struct, t.name, t.places, t.quota, t.fields, t.numbers, t.width, t.start) for t in EVERY]
 
 # ---- the code
 code = open("tools/places.head.txt").read()
-code = code.replace("BYTES", str(SIZE)).replace("{LAYOUT}", "{%s}" % ", ".join(f"{n}_at, zero_{n}" for _, n, *_ in layout))
+code = code.replace("BYTES", str(SIZE)).replace("READS", ", ".join(f"{n}_reads" for _, n, *_ in layout))
+words = [f"{t.name}_{word}" for t in EVERY for word in ("base", "width", "places", "quota", "widths", "from", "at")]
+code = code.replace("{LAYOUT}", "{%s}" % ", ".join(words + [f"zero_{t.name}" for t in EVERY if t.array]))
 store = open("tools/stores.head.txt").read()
-store = store.replace("LAYOUT", ", ".join(f"put_{n}" for _, n, *_ in layout))
+store = store.replace("LAYOUT", ", ".join(f"{n}_numbers, put_{n}" for _, n, *_ in layout)).replace("STORES", ", ".join(f"{n}_stores" for _, n, *_ in layout))
 store = store.replace("STRUCTS", ", ".join(sorted(s for s, *_ in layout)))
 for t, (s, n, places, quota, fields, nums, size, at0) in zip(EVERY, layout):
-    addr = f"address({s}::START, {s}::WIDTH, i)"
     named = "".join(f"    pub const {c}: u8 = {k};\n" for c, k in t.named)
-    named = f"\n    // {t.said}\n{named}" if named else ""
-    code += f"\n// {t.about}\n#[derive(Clone, Copy)]\npub struct {s} {{\n"
+    named = f"    // {t.said}\n{named}\n" if named else ""
+    code += f"\n// {t.about}\n#[derive(Clone, Copy, {'' if t.array else 'Default, '}PartialEq, Eq, Debug)]\npub struct {s} {{\n"
     for f, w in fields:
         code += f"    pub {f}: {ty(t, f, w)},\n"
-    code += f"}}\n\nimpl {s} {{\n    pub const QUOTA: u16 = {quota};\n    pub const PLACES: u16 = {places};\n\n    // The address of the first place, and the bytes of each.\n    pub const START: u16 = {at0};\n    pub const WIDTH: u8 = {size};\n{named}\n    // What stands at a free place.\n    pub fn zero() -> {s}\n        ensures {{ result ≡ zero_{n} }}\n    {{\n        {s} {{\n"
-    code += "".join(f"            {f}: {f'[0; {len(w)}]' if isinstance(w, list) else '0'},\n" for f, w in fields) + "        }\n    }\n"
-    code += f"\n    pub fn new(" + ", ".join(f"{f}: {ty(t, f, w)}" for f, w in fields) + f") -> {s}\n"
+    code += f"}}\n\nimpl {s} {{\n{named}"
+    code += f"    pub fn new(" + ", ".join(f"{f}: {ty(t, f, w)}" for f, w in fields) + f") -> {s}\n"
     code += "        ensures { result ≡ record { " + "; ".join(f"{f} = {f}" for f, _ in fields) + " } }\n    {\n"
     code += f"        {s} {{\n" + "".join(f"            {f},\n" for f, _ in fields) + "        }\n    }\n}\n"
-    code += f"\n// Whose the place is, 0 where it is free.\npub fn {n}_csd(b: &[u8], i: u16) -> u8\n    ensures {{ result ≡ ({n}_at b.now i).csd }}\n{{\n    byte_at(b, {addr}, 0)\n}}\n"
+    if t.array:
+        code += f"\n// What stands at a free place. Not derived: a derive's contract speaks of each element, and callers need the array.\nimpl Default for {s} {{\n    ghost is_default = {{ λ r. r ≡ zero_{n} }};\n\n    fn default() -> {s} {{\n        {s} {{\n"
+        code += "".join(f"            {f}: {f'[0; {len(w)}]' if isinstance(w, list) else '0'},\n" for f, w in fields) + "        }\n    }\n}\n"
     def read(f, k, w, j):
-        r = f"{W[w]}_at(b, at, {j})"
-        return f"byte_at(b, at, {j})" if w == 1 and k is None and f not in t.wide else r
-    code += f"\npub fn {n}_at(b: &[u8], i: u16) -> {s}\n    ensures {{ result ≡ {n}_at b.now i }}\n{{\n    let at = {addr};\n"
+        r = f"{W[w]}_at(b, start, {j})"
+        return f"byte_at(b, start, {j})" if w == 1 and k is None and f not in t.wide else r
     arr = t.array
     if t.long:
-        code = code.replace(f"\npub fn {n}_at(", f"\n// The {len(arr)} bytes of {arr[0][0]}.\nfn {arr[0][0]}_at(b: &[u8], at: u32) -> [u8; {len(arr)}]\n    ensures {{ result ≡ {listed_at(t)} }}\n{{\n    [" + ", ".join(f"byte_at(b, at, {j})" for *_, j in arr) + f"]\n}}\n\npub fn {n}_at(")
-        code += f"    let {arr[0][0]} = {arr[0][0]}_at(b, at);\n"
+        code += f"\n// The {len(arr)} bytes of {arr[0][0]}.\nfn {arr[0][0]}_at(b: &[u8], at: u32) -> [u8; {len(arr)}]\n    ensures {{ result ≡ {listed_at(t)} }}\n{{\n    [" + ", ".join(f"byte_at(b, at, {j})" for *_, j in arr) + "]\n}\n"
+    code += f"\nimpl Place for {s} {{\n"
+    for c, word in (("START", "base"), ("WIDTH", "width"), ("PLACES", "places"), ("QUOTA", "quota")):
+        code += f"    ghost {c} = {{ {n}_{word} }};\n"
+    code += f"    ghost widths = {{ {n}_widths }};\n    ghost from = {{ {n}_from }};\n    ghost at = {{ {n}_at }};\n    ghost csd = {{ λ r. r.csd }};\n    ghost reads = {{ {n}_reads }};\n    ghost first = {{ λ b a. refl }};\n"
+    for c, kind, number in (("START", "u16", at0), ("WIDTH", "u8", size), ("PLACES", "u16", places), ("QUOTA", "u16", quota)):
+        code += f"    const {c}: {kind} = {number};\n"
+    code += f"\n    fn read(b: &[u8], start: u32) -> {s} {{\n"
+    code += f"        {s} {{\n" + "".join(f"            {f}: {read(f, k, w, j)},\n" for f, k, w, j in nums if k is None)
+    if t.long:
+        code += f"            {arr[0][0]}: {arr[0][0]}_at(b, start),\n"
     elif arr:
-        code += "    let values = [" + ", ".join(read(*x) for x in arr) + "];\n"
-    code += f"    {s} {{\n" + "".join(f"        {f}: {read(f, k, w, j)},\n" for f, k, w, j in nums if k is None)
-    code += (f"        {arr[0][0]},\n" if arr else "") + "    }\n}\n"
+        code += f"            {arr[0][0]}: [" + ", ".join(read(*x) for x in arr) + "],\n"
+    code += "        }\n    }\n}\n"
     if t.long:
         store += long_store(t)
         continue
@@ -104,25 +117,23 @@ for t, (s, n, places, quota, fields, nums, size, at0) in zip(EVERY, layout):
         store += f"\n// Values {k0} to {half[-1][1]} of a row.\nfn put_values_{k0}(b: &mut [u8], at: u32, v: [u32; 10])\n"
         store += f"    ensures {{ b.new ≡ puts b.old at {half[0][3]} (bytes_of ({ws} ∷ []) ({vs} ∷ [])) }}\n{{\n"
         store += "".join(f"    put_{W[w]}(b, at, {j}, v[{k}]);\n" for f, k, w, j in half) + "}\n"
-    store += f"\npub fn put_{n}(b: &mut [u8], i: u16, r: {s})\n    ensures {{ b.new ≡ put_{n} b.old i r }}\n{{\n    let at = {addr};\n"
-    if arr:
-        store += "    let values = r.values;\n"
+    store += opened(t)
     rest = list(nums)
     if all(w == 1 and k is None for f, k, w, j in rest[:4]):
-        store += "    put_head(b, at, " + ", ".join(f"r.{f}" for f, *_ in rest[:4]) + ");\n"
+        store += "        put_head(b, start, " + ", ".join(f"self.{f}" for f, *_ in rest[:4]) + ");\n"
         rest = rest[4:]
     elif all(w == 1 for f, k, w, j in rest[:2]):
-        store += f"    put_pair(b, at, r.{rest[0][0]}, r.{rest[1][0]});\n"
+        store += f"        put_pair(b, start, self.{rest[0][0]}, self.{rest[1][0]});\n"
         rest = rest[2:]
     days = [w for f, k, w, j in rest[-2:]] == [4, 4] and rest[-2][0] == "first"
     for f, k, w, j in rest[:-2] if days else rest:
         if k is None:
-            store += f"    put_{W[w]}(b, at, {j}, " + (f"wide(r.{f})" if w == 1 else f"r.{f}") + ");\n"
+            store += f"        put_{W[w]}(b, start, {j}, " + (f"u32::from(self.{f})" if w == 1 else f"self.{f}") + ");\n"
         elif k in (0, 3, 6):
-            store += f"    put_values_{k}(b, at, values);\n"
+            store += f"        put_values_{k}(b, start, self.values);\n"
     if days:
-        store += f"    put_days(b, at, {rest[-2][3]}, r.first, r.last);\n"
-    store += "}\n"
+        store += f"        put_days(b, start, {rest[-2][3]}, self.first, self.last);\n"
+    store += "    }\n}\n"
 write(f"{C}/src/lib.rt", code)
 write(f"{S}/src/lib.rt", store)
 
@@ -138,6 +149,7 @@ for s, n, places, quota, fields, nums, size, at0 in layout:
     N = n.capitalize()
     spec += f"\n-- ---- {places} places of {size} bytes, from {at0}\n"
     spec += f"\nabbrev pub {n}_places : ℕ\n{n}_places = {places}\n"
+    spec += f"\nabbrev pub {n}_quota : ℕ\n{n}_quota = {quota}\n"
     spec += f"\nabbrev pub {n}_base : ℕ\n{n}_base = {at0}\n\nabbrev pub {n}_width : ℕ\n{n}_width = {size}\n"
     spec += f"\nabbrev pub {n}_start : ℕ → ℕ\n{n}_start i = {n}_base + i * {n}_width\n"
     spec += f"\nabbrev pub {n}_widths : List Width\n{n}_widths = " + " ∷ ".join(W[x[2]] for x in nums) + " ∷ []\n"
@@ -150,16 +162,39 @@ for s, n, places, quota, fields, nums, size, at0 in layout:
     spec += f"\nabbrev pub zero_{n} : {s}\nzero_{n} = record {{ " + "; ".join(f"{f} = replicate {len(w)} 0" if isinstance(w, list) else f"{f} = 0" for f, w in fields) + " }\n"
 write(f"{C}/specs/Layout.antt", spec)
 
+# ---- what stands at a place
+reads = """-- What stands at a place of each table: the record of the numbers that start at its address.
+use Rattle.std.specs.Prelude.{ℕ, ◌+◌, ◌*◌, List, ◌≡◌, refl}
+use Rattle.tables.specs.Bytes.{numbers}
+"""
+for s, n, *_ in layout:
+    reads += f"use Rattle.places.specs.Layout.{{{n}_base, {n}_width, {n}_widths, {n}_from, {n}_at}}\n"
+for s, n, *_ in layout:
+    reads += f"\npub {n}_reads : (b : List ℕ) (i : ℕ) → {n}_at b i ≡ {n}_from (numbers {n}_widths b ({n}_base + i * {n}_width) 0)\n"
+    reads += f"unfolding {n}_at\n{n}_reads b i = refl\n"
+write(f"{C}/specs/Reads.antt", reads)
+
+stores = """-- What a record stored at a place of each table leaves: its numbers from the place's address on.
+use Rattle.std.specs.Prelude.{ℕ, ◌+◌, ◌*◌, List, ◌≡◌, refl}
+use Rattle.tables.specs.Bytes.{bytes_of, puts}
+"""
+for s, n, *_ in layout:
+    stores += f"use Rattle.places.specs.declared.{s}.{{{s}}}\nuse Rattle.places.specs.Layout.{{{n}_base, {n}_width, {n}_widths, {n}_numbers, put_{n}}}\n"
+for s, n, *_ in layout:
+    stores += f"\npub {n}_stores : (b : List ℕ) (i : ℕ) (r : {s}) → put_{n} b i r ≡ puts b ({n}_base + i * {n}_width) 0 (bytes_of {n}_widths ({n}_numbers r))\n"
+    stores += f"unfolding put_{n}\n{n}_stores b i r = refl\n"
+write(f"{S}/specs/Stores.antt", stores)
+
 # ---- reading: what the calls return is the record. A law over plain values, so that a wrong reading is refused for
 # certain
 law = """-- What the calls of a reading return, taken together, is the record.
 use Prim.Native.Nat.{ℕ}
 use mathlib.Core.Path.{◌≡◌}
 use mathlib.Core.List.{List, [], ◌∷◌}
-use Rattle.tables.specs.Bytes.{one, two, three, four, number}
+use Rattle.tables.specs.Bytes.{one, two, three, four, number, numbers}
 use Rattle.places.specs.Layout.{LAYOUT}
 USES
-""".replace("LAYOUT", ", ".join(f"{n}_start, {n}_at" for _, n, *_ in layout)).replace("USES", "\n".join(f"use Rattle.places.specs.declared.{s}.{{{s}}}" for s, *_ in layout))
+""".replace("LAYOUT", ", ".join(f"{n}_widths, {n}_from" for _, n, *_ in layout)).replace("USES", "\n".join(f"use Rattle.places.specs.declared.{s}.{{{s}}}" for s, *_ in layout))
 for s, n, places, quota, fields, nums, size, at0 in layout:
     xs = [f"x{j}" for *_, j in nums]
     t = next(t for t in EVERY if t.name == n)
@@ -167,23 +202,23 @@ for s, n, places, quota, fields, nums, size, at0 in layout:
     if t.long:
         plain = [x for x in nums if x[1] is None]
         xs, hs = [f"x{j}" for *_, j in plain], [f"h{j}" for *_, j in plain]
-        law += f"\npub {n}_read : (b : List ℕ) (i at {' '.join(xs)} : ℕ) (v : List ℕ) → at ≡ {n}_start i → "
+        law += f"\npub {n}_read : (b : List ℕ) (at {' '.join(xs)} : ℕ) (v : List ℕ) → "
         law += " → ".join(f"x{j} ≡ number {W[w]} b at {j}" for f, k, w, j in plain) + f" → v ≡ {listed_at(t, 'b')}"
         rec = "; ".join([f"{f} = x{j}" for f, k, w, j in plain] + [f"{t.array[0][0]} = v"])
-        law += f" → ◌≡◌ {{A = {s}}} (record {{ {rec} }}) ({n}_at b i)\nunfolding {n}_at\n"
-        law += f"{n}_read b i at {' '.join(xs)} v e {' '.join(hs)} h = rw ({', '.join(hs)}, h, e)\n"
+        law += f" → ◌≡◌ {{A = {s}}} (record {{ {rec} }}) ({n}_from (numbers {n}_widths b at 0))\n"
+        law += f"{n}_read b at {' '.join(xs)} v {' '.join(hs)} h = rw ({', '.join(hs)}, h)\n"
         xs, hs = [f"x{j}" for *_, j in t.array], [f"h{j}" for *_, j in t.array]
         law += f"\npub {t.array[0][0]}_read : (b : List ℕ) (at {' '.join(xs)} : ℕ) → "
         law += " → ".join(f"x{j} ≡ number one b at {j}" for *_, j in t.array)
         law += f" → ◌≡◌ {{A = List ℕ}} ({arr} ∷ []) ({listed_at(t, 'b')})\n"
         law += f"{t.array[0][0]}_read b at {' '.join(xs)} {' '.join(hs)} = rw ({', '.join(hs)})\n"
         continue
-    law += f"\npub {n}_read_lem : (b : List ℕ) (i at {' '.join(xs)} : ℕ) → at ≡ {n}_start i → "
+    law += f"\npub {n}_read_lem : (b : List ℕ) (at {' '.join(xs)} : ℕ) → "
     law += " → ".join(f"x{j} ≡ number {W[w]} b at {j}" for f, k, w, j in nums)
     rec = "; ".join([f"{f} = x{j}" for f, k, w, j in nums if k is None] + ([f"values = {arr} ∷ []"] if arr else []))
-    law += f" → ◌≡◌ {{A = {s}}} (record {{ {rec} }}) ({n}_at b i)\nunfolding {n}_at\n"
+    law += f" → ◌≡◌ {{A = {s}}} (record {{ {rec} }}) ({n}_from (numbers {n}_widths b at 0))\n"
     hs = [f"h{j}" for *_, j in nums]
-    law += f"{n}_read_lem b i at {' '.join(xs)} e {' '.join(hs)} = rw ({', '.join(hs)}, e)\n"
+    law += f"{n}_read_lem b at {' '.join(xs)} {' '.join(hs)} = rw ({', '.join(hs)})\n"
 write(f"{C}/proofs/Reading.antt", law)
 
 # ---- storing: one store after the other stores the record
@@ -200,9 +235,9 @@ USES
 pub days_put : (b b0 b1 : List ℕ) (at j first last : ℕ) → b1 ≡ puts b0 at (j + 4) (digits four last) → b0 ≡ puts b at j (digits four first) → b1 ≡ puts b at j (bytes_of (four ∷ four ∷ []) (first ∷ last ∷ []))
 unfolding puts digits bytes_of
 days_put b b0 b1 at j first last h1 h0 = rw (h1, h0) (simp add_assoc)
-""".replace("LAYOUT", ", ".join(f"{n}_start, put_{n}" for _, n, *_ in layout)).replace("USES", "\n".join(f"use Rattle.places.specs.declared.{s}.{{{s}}}" for s, *_ in layout))
-def chain(name, binders, at, steps, result, unfold, start=""):
-    """steps: offset, what is stored, and the number that `wide` was given; start: the address of the place"""
+""".replace("LAYOUT", ", ".join(f"{n}_widths, {n}_numbers" for _, n, *_ in layout)).replace("USES", "\n".join(f"use Rattle.places.specs.declared.{s}.{{{s}}}" for s, *_ in layout))
+def chain(name, binders, at, steps, result, unfold):
+    """steps: offset, what is stored, and the byte that it was made from"""
     wides = [f"w{m}" for m, st in enumerate(steps) if len(st) == 3]
     binders += f" ({' '.join(wides)} : ℕ)" if wides else ""
     t = f"\npub {name} : (b {' '.join(f'b{m}' for m in range(len(steps)))} : List ℕ) {binders} → "
@@ -215,10 +250,6 @@ def chain(name, binders, at, steps, result, unfold, start=""):
             t += f"w{m} ≡ {wide[0]} → "
             args.append(f"e{m}")
             order.append(f"e{m}")
-    if start:
-        t += f"at ≡ {start} → "
-        args.append("e")
-        order.append("e")
     vs = []
     for part in binders.split(")"):
         if "(" in part:
@@ -240,7 +271,7 @@ def long_laws(t):
     plain = [x for x in t.numbers if x[1] is None]
     out += chain(f"{t.array[0][0]}_put", f"(at {' '.join(map(alone, t.array))} : ℕ)", "at", parts(array, alone), f"puts b at {t.array[0][3]} {bytes_of(t.array, alone)}", "")
     out += chain(f"{t.name}_fields_put", f"(at {' '.join(map(alone, plain))} : ℕ)", "at", parts(fields, alone), f"puts b at 0 {bytes_of(plain, alone)}", "")
-    return out + chain(f"{t.name}_put", f"(i at : ℕ) (r : {t.struct})", "at", parts([plain, t.array], value), f"put_{t.name} b i r", f"put_{t.name}", f"{t.name}_start i")
+    return out + chain(f"{t.name}_put", f"(at : ℕ) (r : {t.struct})", "at", parts([plain, t.array], value), f"puts b at 0 (bytes_of {t.name}_widths ({t.name}_numbers r))", "")
 head = [(c, None, 1, j) for j, c in enumerate("xyzu")]
 law += chain("head_put", "(at x y z u : ℕ)", "at", [(j, "", c) for c, _, _, j in head], "puts b at 0 " + bytes_of(head, lambda x: x[0]), "")
 law += chain("pair_put", "(at x y : ℕ)", "at", [(j, "", c) for c, _, _, j in head[:2]], "puts b at 0 " + bytes_of(head[:2], lambda x: x[0]), "")
@@ -268,14 +299,14 @@ for s, n, places, quota, fields, nums, size, at0 in layout:
         steps.append((half[0][3], bytes_of(half, val)))
     if days:
         steps.append((rest[-2][3], bytes_of(rest[-2:], val)))
-    law += chain(f"{n}_put", f"(i at : ℕ) (r : {s})", "at", steps, f"put_{n} b i r", f"put_{n}", f"{n}_start i")
+    law += chain(f"{n}_put", f"(at : ℕ) (r : {s})", "at", steps, f"puts b at 0 (bytes_of {n}_widths ({n}_numbers r))", "")
 write(f"{S}/proofs/Storing.antt", law)
 
 # ---- whose a place is, and its record
 def answered(function, uses, unfold, law):
     """the answer to a function's one goal, by a law"""
     write(f"{C}/proofs/{function}/Answers.antt", f"""-- `places::{function}` meets its contract. Assumes nothing.
-{uses}use Rattle.places.proofs.{function}.Goals as goal
+{uses}use Rattle.places.proofs.{function.replace("/", ".")}.Goals as goal
 
 pub returns : goal.returns
 {unfold}returns c = search {law}
@@ -283,8 +314,7 @@ pub returns : goal.returns
 
 for t in EVERY:
     n = t.name
-    uses = f"use Rattle.places.specs.Layout.{{{n}_at}}\nuse Rattle.places.proofs.Numbers.{{byte_read}}\n"
-    answered(f"{n}_csd", uses, f"unfolding {n}_at\n", "byte_read")
-    laws = [(f"{t.array[0][0]}_at", f"{t.array[0][0]}_read"), (f"{n}_at", f"{n}_read")] if t.long else [(f"{n}_at", f"{n}_read_lem")]
-    for function, law in laws:
-        answered(function, f"use Rattle.places.proofs.Reading.{{{law}}}\n", "", law)
+    if t.long:
+        answered(f"{t.array[0][0]}_at", f"use Rattle.places.proofs.Reading.{{{t.array[0][0]}_read}}\n", "", f"{t.array[0][0]}_read")
+    law = f"{n}_read" if t.long else f"{n}_read_lem"
+    answered(f"{t.struct}Place/read", f"use Rattle.places.proofs.Reading.{{{law}}}\n", "", law)

@@ -14,7 +14,6 @@ class Table:
     fields: list  # name and bytes; the bytes of each number where the field is an array
     said: str = ""  # what the named numbers are
     named: list = field(default_factory=list)  # numbers that a field may hold, by name, as document 01 names them
-    beside: bool = False  # a row stands beside what is asked of its records
     wide: tuple = ()  # fields of one byte that are u32 in the struct, as a question has them
     part: bool = True  # part of the book; else only its places are read and stored, behind the book's end
     start: int = 0  # the address of the first place; set below
@@ -63,13 +62,11 @@ EVERY = [
         places=512, quota=64,
         fields=[("csd", 1), ("number", 1), ("object", 1), ("sequence", 1), ("sign", 1), ("criteria", 2), ("first", 4),
                 ("last", 4)],
-        said="Signs.", named=[("POSITIVE", 1), ("NEGATIVE", 2)],
-        beside=True),
+        said="Signs.", named=[("POSITIVE", 1), ("NEGATIVE", 2)]),
     Table(
         "Row", "row", "Row", "A row of a rule: its ten values, 0 where empty.",
         places=1024, quota=128,
-        fields=[("csd", 1), ("number", 1), ("object", 1), ("sequence", 1), ("values", [1, 1, 1, 4, 3, 3, 2, 2, 2, 3])],
-        beside=True),
+        fields=[("csd", 1), ("number", 1), ("object", 1), ("sequence", 1), ("values", [1, 1, 1, 4, 3, 3, 2, 2, 2, 3])]),
     Table(
         "Period", "period", "Period",
         "An attribute period: the days on which a party, an account or a security has a code.",

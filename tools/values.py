@@ -59,8 +59,10 @@ noted("values", f"{R}/specs/Tables.antt", f"""-- The book's tables, each a value
 use Rattle.std.specs.Prelude.{{ℕ, ◌*◌, Bool, ◌&&◌, List, [], ◌∷◌}}
 use Rattle.tables.specs.Table.{{Table}}
 use Rattle.meaning.specs.Records as M
-{each("use Rattle.places.specs.Layout.{NAME_places, NAME_base, NAME_width, NAME_widths, NAME_numbers, NAME_from, NAME_at, put_NAME}" + chr(10))}{each("use Rattle.places.specs.declared.STRUCT.{STRUCT}" + chr(10))}use Rattle.records.specs.Said.{{{each("NAME_of", ", ")}}}
-use Rattle.records.specs.Free.{{{each("NAME_zero", ", ")}}}
+{each("use Rattle.places.specs.Layout.{NAME_places, NAME_base, NAME_width, NAME_widths, NAME_numbers, NAME_from, NAME_at, put_NAME}" + chr(10))}{each("use Rattle.places.specs.declared.STRUCT.{STRUCT}" + chr(10))}use Rattle.places.specs.Layout.{{instruction_places, instruction_base, instruction_widths, instruction_numbers, instruction_from, instruction_at, put_instruction}}
+use Rattle.places.specs.declared.Kept.{{Kept}}
+use Rattle.records.specs.Said.{{{each("NAME_of", ", ")}, instruction_of}}
+use Rattle.records.specs.Free.{{all_zero, {each("NAME_zero", ", ")}}}
 
 pub data TableName : Type 0 where
   {" ".join(OF)} : TableName
@@ -86,6 +88,22 @@ abbrev pub table : (k : TableName) → Table (Place k) (Said k)
   rec = NAME_of;
 }
 ''')}
+-- the kept instructions, which stand behind the book (docs/LAYOUT.md)
+abbrev pub kept : Table Kept M.Kept
+kept = record {{
+  start = instruction_base;
+  places = instruction_places;
+  quota = M.instruction_quota;
+  widths = instruction_widths;
+  shown = instruction_numbers;
+  from = instruction_from;
+  at = instruction_at;
+  put = put_instruction;
+  csd = λ r. r.csd;
+  free = λ r. all_zero (instruction_numbers r);
+  rec = instruction_of;
+}}
+
 -- ---- the tables' order in the book
 
 abbrev pub rank : TableName → ℕ

@@ -1,22 +1,21 @@
 -- What each return of `take` shows: what a command does to a book.
-use Prim.Native.Nat.{ℕ, zero, suc}
+use Prim.Native.Nat.{ℕ}
 use mathlib.Core.Path.{◌≡◌, refl, ap, sym, ◌∙◌}
-use mathlib.Core.Bool.{Bool, true, false, not}
+use mathlib.Core.Bool.{Bool, true, false, cond, not}
 use mathlib.Core.List.{List}
-use mathlib.Core.Option.{Option, some, none}
+use Rattle.std.specs.Prelude.{Option, Some, None, is_some}
 use lib.Dec.{eqb}
-use borrow.Author.Tests.{eq-eqb, ne_eqb}
-use Rattle.tables.proofs.Counts.{cases_eq}
 use Rattle.meaning.specs.Records as M
 use Rattle.meaning.specs.Records.{question_in}
 use Rattle.meaning.specs.Refusals.{refusal}
 use Rattle.meaning.specs.Edits.{edited}
 use Rattle.meaning.specs.Judging.{judged}
 use Rattle.meaning.specs.Status.{answer_to}
-use Rattle.meaning.specs.Lone.{elsewhere, replied, reply, unless, taken, is_some}
+use Rattle.meaning.specs.Lone.{elsewhere, replied, reply, unless, taken}
 use Rattle.meaning.specs.Sound.{sound_lone}
 use Rattle.meaning.specs.declared.Answer.{Answer}
 use Rattle.meaning.specs.declared.Answer.TheVariants.{Taken, Refused}
+use Rattle.meaning.specs.declared.Refusal.{Refusal}
 use Rattle.meaning.specs.declared.Sent.{Sent}
 use Rattle.meaning.specs.declared.Sent.TheVariants.{Alone, InBatch}
 use Rattle.meaning.specs.declared.Verdict.{Verdict}
@@ -35,7 +34,7 @@ use Rattle.edits.proofs.Stay.{sound_lone_lem, edit_left}
 use Rattle.edits.proofs.Does.{edit_meant}
 use Rattle.judge.specs.Stages.{judged_by}
 use Rattle.judge.proofs.VerdictRight.{judged_right}
-use Rattle.answering.specs.Taking.{refusal_of, replied_to, reply_to, answer_of, bytes_after, Ready, Took}
+use Rattle.answering.specs.Taking.{refused_or, refusal_of, replied_to, reply_to, answer_of, bytes_after, Ready, Took}
 
 -- the code's test for a line of another depository than its batch
 pub elsewhere_alone : (s : Sent) (r : Bool) (csd : ℕ) → s ≡ Alone → r ≡ false → r ≡ elsewhere s csd
@@ -47,14 +46,13 @@ unfolding elsewhere
 elsewhere_batch s r csd c e f = rw e f
 
 -- the code's test for a question
-pub question_of_lem : (x : What) (q : Question) (w : Wishes) → x ≡ What.Ask q w → question_asked x ≡ some (q, w)
+pub question_of_lem : (x : What) (q : Question) (w : Wishes) → x ≡ What.Ask q w → question_asked x ≡ Some (q, w)
 question_of_lem x q w e = ap question_asked e
 
-unless_refused : (n : ℕ) (m : M.Book) (k : M.Command) → (n ≡ 0 → ⊥)
-    → unless n m k ≡ record { answer = Refused n; book = m }
-unfolding unless
-unless_refused zero m k h = absurd (h refl)
-unless_refused (suc n) m k h = refl
+-- what the code's test for a refusal leaves is none
+pub none_given : {o : Option Refusal} → ((r : Refusal) → o ≡ Some r → ⊥) → o ≡ None
+none_given {o = None} k = refl
+none_given {o = Some r} k = absurd (k r refl)
 
 taken_by : (m : M.Book) (k : M.Command) → taken m k ≡ unless (refusal m k) m k
 unfolding taken refusal
@@ -71,15 +69,15 @@ module _ (b : List ℕ) (c : Command) where
   abbrev k : M.Command
   k = asked c
 
-  pub took_refusal : (n : ℕ) (x : Answer) → (n ≡ 0 → ⊥) → x ≡ Refused n → n ≡ refusal m k → Took b c x b
-  unfolding answer_of bytes_after refusal_of
-  took_refusal n x f g h =
-      let r : eqb (refusal m k) 0 ≡ false = ap (λ j. eqb j 0) (sym h) ∙ ne_eqb n 0 f in
-      let u : taken m k ≡ record { answer = Refused n; book = m } =
-      taken_by m k ∙ ap (λ j. unless j m k) (sym h) ∙ unless_refused n m k f in
+  pub took_refusal : (r : Refusal) (o : Option Refusal) (x : Answer) → x ≡ Refused r → o ≡ Some r → o ≡ refusal m k
+      → Took b c x b
+  unfolding answer_of bytes_after refusal_of unless
+  took_refusal r o x g f h =
+      let e : refusal m k ≡ Some r = sym h ∙ f in
+      let u : taken m k ≡ record { answer = Refused r; book = m } = taken_by m k ∙ ap (λ j. unless j m k) e in
       record {
-        answered = rw r (g ∙ ap Refused h);
-        bytes = rw r;
+        answered = rw e g;
+        bytes = rw e;
         meant = λ y.
             record {
               answered = g ∙ ap (λ z. z.answer) (sym u);
@@ -90,8 +88,8 @@ module _ (b : List ℕ) (c : Command) where
 
   -- ---- where no refusal holds
 
-  module _ (n : ℕ) (none_holds : n ≡ 0) (holds : n ≡ refusal m k) where
-    unrefused : refusal m k ≡ 0
+  module _ (o : Option Refusal) (none_holds : o ≡ None) (holds : o ≡ refusal m k) where
+    unrefused : refusal m k ≡ None
     unrefused = sym holds ∙ none_holds
 
     accepted : Ready b c → Accepted b c.csd k
@@ -101,12 +99,11 @@ module _ (b : List ℕ) (c : Command) where
         → (Ready b c → Edited b c.csd k b') → Took b c x b'
     unfolding answer_of bytes_after refusal_of unless
     took b' x h g replies leaves =
-        let r : eqb (refusal m k) 0 ≡ true = eq-eqb _ 0 unrefused in
         let u : taken m k ≡ record { answer = reply m k; book = edited m k } =
         taken_by m k ∙ ap (λ j. unless j m k) unrefused in
         record {
-          answered = rw r h;
-          bytes = rw r g;
+          answered = rw unrefused h;
+          bytes = rw unrefused g;
           meant = λ y.
               record {
                 answered = replies y ∙ ap (λ z. z.answer) (sym u);
@@ -116,12 +113,12 @@ module _ (b : List ℕ) (c : Command) where
         }
 
     -- by what `judge` and `answer_to` ensure
-    pub took_question : (q : Question) (w : Wishes) (v : Verdict) (x : Answer) → question_asked c.what ≡ some (q, w)
+    pub took_question : (q : Question) (w : Wishes) (v : Verdict) (x : Answer) → question_asked c.what ≡ Some (q, w)
         → v ≡ judged_by b q → (sound_lone (lone_book q.csd b) ≡ true → v ≡ judged (lone_book q.csd b) (question_of q))
         → x ≡ answer_to v w → Took b c x b
     unfolding reply_to replied_to reply replied
     took_question q w v x e f g h =
-        let i : question_in k ≡ some (question_of q, w) = asked_question c.day c.row c.what ∙ ap as_meant e in
+        let i : question_in k ≡ Some (question_of q, w) = asked_question c.day c.row c.what ∙ ap as_meant e in
         let left : b ≡ edit_in b c.csd k = sym (question_left b c.csd k (ap is_some i)) in
         took b x (rw (e, ← f) h) left
         (λ y.
@@ -131,25 +128,28 @@ module _ (b : List ℕ) (c : Command) where
         (λ y. edit_meant b b c left (accepted y))
 
     -- by what `edit` ensures
-    pub took_edit : (b' : List ℕ) → question_asked c.what ≡ none → b' ≡ edit_in b c.csd k
+    pub took_edit : (b' : List ℕ) → question_asked c.what ≡ None → b' ≡ edit_in b c.csd k
         → (Accepted b c.csd k → Edited b c.csd k b') → Took b c Taken b'
     unfolding reply_to reply replied
     took_edit b' e g h =
-        let i : question_in k ≡ none = asked_question c.day c.row c.what ∙ ap as_meant e in
+        let i : question_in k ≡ None = asked_question c.day c.row c.what ∙ ap as_meant e in
         took b' Taken (rw e) g (λ y. ap (replied m) (sym i)) (λ y. h (accepted y))
 
     -- ---- what is answered and left by definition
 
     took_reply : (o : Option (Question × Wishes)) → question_asked c.what ≡ o → Took b c (replied_to b o) (edit_in b c.csd k)
     unfolding replied_to
-    took_reply none e = took_edit (edit_in b c.csd k) e refl (edit_left b c.csd k)
-    took_reply (some (q, w)) e =
-        let i : question_in k ≡ some (question_of q, w) = asked_question c.day c.row c.what ∙ ap as_meant e in
+    took_reply None e = took_edit (edit_in b c.csd k) e refl (edit_left b c.csd k)
+    took_reply (Some (q, w)) e =
+        let i : question_in k ≡ Some (question_of q, w) = asked_question c.day c.row c.what ∙ ap as_meant e in
         rw (question_left b c.csd k (ap is_some i)) (took_question q w (judged_by b q) _ e refl (judged_right b q) refl)
 
+  took_by : (o : Option Refusal) → o ≡ refusal m k
+      → Took b c (refused_or (reply_to b c.what) o) (cond (is_some o) b (edit_in b c.csd k))
+  unfolding reply_to
+  took_by None h = took_reply None refl h (question_asked c.what) refl
+  took_by (Some r) h = took_refusal r (Some r) (Refused r) refl refl h
+
   pub took_any : Took b c (answer_of b c) (bytes_after b c)
-  unfolding answer_of bytes_after refusal_of reply_to
-  took_any =
-      cases_eq (refusal m k) 0
-      (λ e. rw (eq-eqb (refusal m k) 0 e) (took_reply 0 refl (sym e) (question_asked c.what) refl))
-      (λ e. rw (ne_eqb (refusal m k) 0 e) (took_refusal (refusal m k) (Refused (refusal m k)) e refl refl))
+  unfolding answer_of bytes_after refusal_of
+  took_any = took_by (refusal m k) refl

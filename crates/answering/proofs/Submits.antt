@@ -1,12 +1,12 @@
 -- What each return of `answer` shows: the promise of `submit`.
 use Prim.Native.Nat.{ℕ, ◌%◌, ◌≤◌}
 use mathlib.Core.Path.{◌≡◌, refl, ap, sym, ◌∙◌}
-use mathlib.Core.Bool.{Bool, true, false, cond, not, or-true, false≢true}
+use mathlib.Core.Bool.{Bool, true, false, cond, not, ◌||◌, false≢true}
 use mathlib.Core.List.{List}
-use mathlib.Core.Option.{Option, some, none}
+use Rattle.std.specs.Prelude.{Option, Some, None, is_some, Result, Ok, Err}
 use native.Mathlib.Omega.{arith}
 use lib.Dec.{eqb}
-use borrow.Author.Tests.{eq-eqb, ne_eqb, not-true, not-false}
+use borrow.Author.Tests.{not-true}
 use Rattle.tables.proofs.Counts.{cases, cases_eq}
 use Rattle.meaning.specs.Forms.{Letter}
 use Rattle.meaning.specs.Records as M
@@ -14,10 +14,12 @@ use Rattle.meaning.specs.Records.{◌!◌, command_of, question_in}
 use Rattle.meaning.specs.Reading.{Reading, refused, asks, numbers_read, unless_wrong, reading}
 use Rattle.meaning.specs.Refusals.{wrong, refusal_sent, refusal}
 use Rattle.meaning.specs.Edits.{fits}
-use Rattle.meaning.specs.Lone.{elsewhere, replied, reply, unless, taken_sent, taken, after_reading, step_sent, is_some, is_question, keeps_read, keeps, names, depository}
+use Rattle.meaning.specs.Lone.{elsewhere, replied, reply, unless, taken_sent, taken, after_reading, step_sent, is_question, keeps_read, keeps, names, depository}
 use Rattle.meaning.specs.SameBook.{SameBook}
 use Rattle.meaning.specs.declared.Answer.{Answer}
 use Rattle.meaning.specs.declared.Answer.TheVariants.{Taken, Refused}
+use Rattle.meaning.specs.declared.Refusal.{Refusal}
+use Rattle.meaning.specs.declared.Refusal.TheVariants.{UnsoundBook, BadField, OtherDepository}
 use Rattle.meaning.specs.declared.Sent.{Sent}
 use Rattle.meaning.proofs.Ranges.{reading_ranged, reading_fits}
 use Rattle.meaning.proofs.Names.{reading_csd, reading_names, reading_depository, names_depository}
@@ -43,12 +45,12 @@ use Rattle.answering.proofs.Commands.{took_any}
 -- ---- the depository of a question
 
 abbrev csd_in : ℕ → Option (Question × Wishes) → ℕ
-csd_in c none = c
-csd_in c (some a) = a.0.csd
+csd_in c None = c
+csd_in c (Some a) = a.0.csd
 
 own_csd : (c : ℕ) (q : Option (M.Question × Wishes)) → csd_in c (as_on c q) ≡ c
-own_csd c none = refl
-own_csd c (some (q, w)) = refl
+own_csd c None = refl
+own_csd c (Some (q, w)) = refl
 
 -- ---- the promise, by what is read
 
@@ -56,7 +58,7 @@ same_book : (m : M.Book) → SameBook m m
 same_book m = same_books refl
 
 pub submitted_unsound : (how : Sent) (b line : List ℕ) (t : Bool) (x : Answer) → t ≡ sound b → not t ≡ true
-    → x ≡ Refused 1 → SubmittedAs how b line x b
+    → x ≡ Refused UnsoundBook → SubmittedAs how b line x b
 unfolding answer_in
 submitted_unsound how b line t x e f g =
     let s : sound b ≡ false = sym e ∙ not-true t f in
@@ -68,10 +70,10 @@ submitted_unsound how b line t x e f g =
     }
 
 -- a line that is refused 2 to 5 leaves every lone book
-submitted_unread : (how : Sent) (b line : List ℕ) (n : ℕ) (x : Answer) → sound b ≡ true → reading line ≡ refused n
-    → x ≡ Refused n → SubmittedAs how b line x b
+submitted_unread : (how : Sent) (b line : List ℕ) (r : Refusal) (x : Answer) → sound b ≡ true → reading line ≡ refused r
+    → x ≡ Refused r → SubmittedAs how b line x b
 unfolding answer_in lone_after step_sent after_reading
-submitted_unread how b line n x s e f =
+submitted_unread how b line r x s e f =
     record {
       answered = rw (s, e) f;
       kept = λ z. refl;
@@ -128,17 +130,17 @@ module _ (how : Sent) (b line : List ℕ) (l : Letter) (v : List ℕ) (s : sound
       }
 
   -- a line of another depository than its batch's gets 12 and leaves every byte
-  submitted_elsewhere : away ≡ true → (x : Answer) → x ≡ Refused 12 → SubmittedAs how b line x b
+  submitted_elsewhere : away ≡ true → (x : Answer) → x ≡ Refused OtherDepository → SubmittedAs how b line x b
   submitted_elsewhere w x f =
       let t : taken_sent away m k ≡ refused12 m = taken_elsewhere away m k w in
       submitted_by x b (f ∙ ap (λ z. z.answer) (sym t)) (λ z. refl) s (rw t (same_book m)) (λ a u y. refl)
 
   -- a question that is not refused leaves every byte
-  left_question : away ≡ false → refusal m k ≡ 0 → left_as_found how b line ≡ true → is_question k ≡ true
+  left_question : away ≡ false → refusal m k ≡ None → left_as_found how b line ≡ true → is_question k ≡ true
   unfolding left_as_found keeps keeps_read
   left_question w r h =
-      let i : refusal_sent away m k ≡ 0 = refusal_here away m k w ∙ r in
-      rw (s, dep, e, eq-eqb (refusal_sent away m k) 0 i) at h
+      let i : refusal_sent away m k ≡ None = refusal_here away m k w ∙ r in
+      rw (s, dep, e, i) at h
 
   -- the code's command is the meaning's
   abbrev d : Command
@@ -158,14 +160,15 @@ module _ (how : Sent) (b line : List ℕ) (l : Letter) (v : List ℕ) (s : sound
         own = λ q w f. sym (ap (csd_in c) (sym (question_coded c k) ∙ f)) ∙ own_csd c (question_in k);
       }
 
+  kept_by : away ≡ false → (b' : List ℕ) (o : Option Refusal) → refusal m k ≡ o → b' ≡ cond (is_some o) b (edit_in b c k)
+      → left_as_found how b line ≡ true → b' ≡ b
+  kept_by w b' None r j h = j ∙ question_left b c k (left_question w r h)
+  kept_by w b' (Some z) r j h = j
+
   kept : away ≡ false → (b' : List ℕ) → b' ≡ bytes_after b d → left_as_found how b line ≡ true → b' ≡ b
   unfolding bytes_after refusal_of coded
   kept w b' i h =
-      let j : b' ≡ cond (eqb (refusal m k) 0) (edit_in b c k) b =
-      i ∙ ap (λ z. cond (eqb (refusal m z) 0) (edit_in b c z) b) same in
-      cases_eq (refusal m k) 0
-      (λ r. (rw (eq-eqb (refusal m k) 0 r) at j) ∙ question_left b c k (left_question w r h))
-      (λ r. rw (ne_eqb (refusal m k) 0 r) at j)
+      kept_by w b' (refusal m k) refl (i ∙ ap (λ z. cond (is_some (refusal m z)) b (edit_in b c z)) same) h
 
   -- THE PROMISE for a line that is read, from what `take` does.
   submitted_read : away ≡ false → (x : Answer) (b' : List ℕ) → Took b d x b' → SubmittedAs how b line x b'
@@ -202,7 +205,7 @@ module _ (line : List ℕ) (l : Line) (a : Read.Asked line l) where
   unfolding coded
   same_csd = ap (λ z. z.csd) same_command
 
-  wrong_reading : wrong (asked (command_in l)) ≡ true → reading line ≡ refused 5
+  wrong_reading : wrong (asked (command_in l)) ≡ true → reading line ≡ refused BadField
   unfolding reading unless_wrong
   wrong_reading w = rw (a.whole, ap wrong (sym same_asked) ∙ w)
 
@@ -210,47 +213,46 @@ module _ (line : List ℕ) (l : Line) (a : Read.Asked line l) where
   unfolding reading unless_wrong
   right_reading w = rw (a.whole, ap wrong (sym same_asked) ∙ w)
 
-unread : (line : List ℕ) (n : ℕ) → numbers_read line ≡ refused n → reading line ≡ refused n
+unread : (line : List ℕ) (r : Refusal) → numbers_read line ≡ refused r → reading line ≡ refused r
 unfolding reading unless_wrong
-unread line n e = rw e
+unread line r e = rw e
 
 -- ---- the returns of answer
 
 module _ (how : Sent) (b line : List ℕ) (t : Bool) (x : Answer) where
-  pub answers_unsound : not t ≡ true → x ≡ Refused 1 → Answers how t b line x b
+  pub answers_unsound : not t ≡ true → x ≡ Refused UnsoundBook → Answers how t b line x b
   unfolding answer_by bytes_by
   answers_unsound f g =
       let n = not-true t f in
       record { answered = rw n g; bytes = rw n; promise = λ e. submitted_unsound how b line t x e f g }
 
-  module _ (l : Line) (f : not t ≡ false) (g : l ≡ line_of (numbers_read line)) where
-    pub answers_unread : (l.refusal ≡ 0 → ⊥) → x ≡ Refused l.refusal → Answers how t b line x b
+  module _ (n : t ≡ true) where
+    pub answers_unread : (r : Refusal) → Err r ≡ line_of (numbers_read line) → x ≡ Refused r → Answers how t b line x b
     unfolding answer_by bytes_by answer_read bytes_read
-    answers_unread h i =
-        let n = not-false t f in
-        let z = ne_eqb l.refusal 0 h in
+    answers_unread r g i =
         record {
-          answered = rw (n, ← g, z) i;
-          bytes = rw (n, ← g, z);
+          answered = rw (n, ← g) i;
+          bytes = rw (n, ← g);
           promise = λ e.
-              submitted_unread how b line l.refusal x (sym e ∙ n)
-              (unread line l.refusal (Read.was_refused line g h).whole) i;
+              submitted_unread how b line r x (sym e ∙ n) (unread line r (Read.was_refused line g).whole) i;
         }
 
-    module _ (h : l.refusal ≡ 0) (c : Command) (w : Bool) (i : c ≡ command_in l) (j : w ≡ wrong (asked c)) where
+    module _ (l : Line) (g : Ok l ≡ line_of (numbers_read line)) (c : Command) (w : Bool) (i : c ≡ command_in l)
+        (j : w ≡ wrong (asked c)) where
+      read_as : line_of (numbers_read line) ≡ Ok l
+      read_as = sym g
+
       said : wrong (asked (command_in l)) ≡ w
       said = ap (λ z. wrong (asked z)) (sym i) ∙ sym j
 
-      pub answers_wrong : w ≡ true → x ≡ Refused 5 → Answers how t b line x b
+      pub answers_wrong : w ≡ true → x ≡ Refused BadField → Answers how t b line x b
       unfolding answer_by bytes_by answer_read bytes_read
       answers_wrong y u =
-          let n = not-false t f in
-          let z = eq-eqb l.refusal 0 h in
           record {
-            answered = rw (n, ← g, z, said ∙ y) u;
-            bytes = rw (n, ← g, z, said ∙ y);
+            answered = rw (n, read_as, said ∙ y) u;
+            bytes = rw (n, read_as, said ∙ y);
             promise = λ e.
-                submitted_unread how b line 5 x (sym e ∙ n) (wrong_reading line l (Read.asked line g h) (said ∙ y)) u;
+                submitted_unread how b line BadField x (sym e ∙ n) (wrong_reading line l (Read.asked line g) (said ∙ y)) u;
           }
 
       module _ (y : w ≡ false) (d : Bool) (p : d ≡ elsewhere how c.csd) where
@@ -261,15 +263,13 @@ module _ (how : Sent) (b line : List ℕ) (t : Bool) (x : Answer) where
         read_so : (a : Read.Asked line l) → elsewhere how (a.numbers ! 0) ≡ d
         read_so a = ap (elsewhere how) (sym (same_csd line l a)) ∙ sent_so
 
-        pub answers_elsewhere : d ≡ true → x ≡ Refused 12 → Answers how t b line x b
+        pub answers_elsewhere : d ≡ true → x ≡ Refused OtherDepository → Answers how t b line x b
         unfolding answer_by bytes_by answer_read bytes_read
         answers_elsewhere q u =
-            let n = not-false t f in
-            let z = eq-eqb l.refusal 0 h in
-            let a = Read.asked line g h in
+            let a = Read.asked line g in
             record {
-              answered = rw (n, ← g, z, said ∙ y, sent_so ∙ q) u;
-              bytes = rw (n, ← g, z, said ∙ y, sent_so ∙ q);
+              answered = rw (n, read_as, said ∙ y, sent_so ∙ q) u;
+              bytes = rw (n, read_as, said ∙ y, sent_so ∙ q);
               promise = λ e.
                   submitted_elsewhere how b line a.letter a.numbers (sym e ∙ n)
                   (right_reading line l a (said ∙ y)) (read_so a ∙ q) x u;
@@ -278,13 +278,11 @@ module _ (how : Sent) (b line : List ℕ) (t : Bool) (x : Answer) where
         pub answers_read : (b' : List ℕ) → d ≡ false → Took b c x b' → Answers how t b line x b'
         unfolding answer_by bytes_by answer_read bytes_read
         answers_read b' q u =
-            let n = not-false t f in
-            let z = eq-eqb l.refusal 0 h in
-            let a = Read.asked line g h in
+            let a = Read.asked line g in
             let k : Took b (command_in l) x b' = rw (← i) u in
             record {
-              answered = rw (n, ← g, z, said ∙ y, sent_so ∙ q) k.answered;
-              bytes = rw (n, ← g, z, said ∙ y, sent_so ∙ q) k.bytes;
+              answered = rw (n, read_as, said ∙ y, sent_so ∙ q) k.answered;
+              bytes = rw (n, read_as, said ∙ y, sent_so ∙ q) k.bytes;
               promise = λ e.
                   submitted_read how b line a.letter a.numbers (sym e ∙ n) (right_reading line l a (said ∙ y))
                   (read_so a ∙ q) x b' (rw (same_command line l a) at k);
@@ -298,58 +296,61 @@ module _ (how : Sent) (b b' line : List ℕ) (t : Bool) (x : Answer) where
 
 -- ---- what is answered to any line over any bytes keeps the promise
 
-answers_any : (how : Sent) (b line : List ℕ) → sound b ≡ true
-    → Answers how true b line (answer_by how true b line) (bytes_by how true b line)
-unfolding answer_by bytes_by answer_read bytes_read
-answers_any how b line s =
-    let l = line_of (numbers_read line) in
+answers_as : (how : Sent) (b line : List ℕ) (o : Result Line Refusal) → o ≡ line_of (numbers_read line)
+    → Answers how true b line (answer_read how b o) (bytes_read how b o)
+unfolding answer_read bytes_read
+answers_as how b line (Err r) g = answers_unread how b line true (Refused r) refl r g refl
+answers_as how b line (Ok l) g =
     let c = command_in l in
-    cases_eq l.refusal 0
-    (λ e.
     cases (wrong (asked c))
-    (λ w.
-    rw (eq-eqb l.refusal 0 e, w)
-    (answers_wrong how b line true (Refused 5) l refl refl e c true refl (sym w) refl refl))
+    (λ w. rw w (answers_wrong how b line true (Refused BadField) refl l g c true refl (sym w) refl refl))
     (λ w.
     cases (is_elsewhere how l)
     (λ d.
-    rw (eq-eqb l.refusal 0 e, w, d)
-    (answers_elsewhere how b line true (Refused 12) l refl refl e c false refl (sym w) refl true (sym d) refl refl))
+    rw (w, d)
+    (answers_elsewhere how b line true (Refused OtherDepository) refl l g c false refl (sym w) refl true
+    (sym d) refl refl))
     (λ d.
-    rw (eq-eqb l.refusal 0 e, w, d)
-    (answers_read how b line true (answer_of b c) l refl refl e c false refl (sym w) refl false (sym d)
-    (bytes_after b c) refl (took_any b c)))))
-    (λ e. rw (ne_eqb l.refusal 0 e) (answers_unread how b line true (Refused l.refusal) l refl refl e refl))
+    rw (w, d)
+    (answers_read how b line true (answer_of b c) refl l g c false refl (sym w) refl false (sym d)
+    (bytes_after b c) refl (took_any b c))))
+
+answers_any : (how : Sent) (b line : List ℕ)
+    → Answers how true b line (answer_by how true b line) (bytes_by how true b line)
+unfolding answer_by bytes_by
+answers_any how b line = answers_as how b line (line_of (numbers_read line)) refl
 
 pub keeps_promise : (how : Sent) (b line : List ℕ)
     → SubmittedAs how b line (answer_by how (sound b) b line) (bytes_by how (sound b) b line)
 unfolding answer_by bytes_by
 keeps_promise how b line =
     cases (sound b)
-    (λ s. rw s ((answers_any how b line s).promise (sym s)))
-    (λ s. rw s ((answers_unsound how b line false (Refused 1) refl refl).promise (sym s)))
+    (λ s. rw s ((answers_any how b line).promise (sym s)))
+    (λ s. rw s ((answers_unsound how b line false (Refused UnsoundBook) refl refl).promise (sym s)))
 
 -- ---- an answer other than K: every byte is left
 
 -- any other command is replied K
 none_replied : (m : M.Book) (q : Option (M.Question × Wishes)) → is_some q ≡ false → replied m q ≡ Taken
 unfolding replied
-none_replied m none e = refl
-none_replied m (some q) e = absurd (false≢true (sym e))
+none_replied m None e = refl
+none_replied m (Some q) e = absurd (false≢true (sym e))
 
 reply_edit : (m : M.Book) (k : M.Command) → is_question k ≡ false → reply m k ≡ Taken
 unfolding reply
 reply_edit m k = none_replied m (question_in k)
 
+untaken_by : (m : M.Book) (k : M.Command) (o : Option Refusal) → ((unless o m k).answer ≡ Taken → ⊥)
+    → (is_some o || is_question k) ≡ true
+unfolding unless
+untaken_by m k (Some r) h = refl
+untaken_by m k None h = cases (is_question k) (λ q. q) (λ q. absurd (h (reply_edit m k q)))
+
 untaken_keeps : (how : Sent) (m : M.Book) (y : Reading) → ((after_reading how m y).answer ≡ Taken → ⊥)
     → keeps_read how m y ≡ true
 unfolding after_reading keeps_read taken_sent unless
-untaken_keeps how m (refused n) h = refl
-untaken_keeps how m (asks l v) h =
-    let n = refusal_sent (elsewhere how (v ! 0)) m (command_of l v) in
-    cases (is_question (command_of l v))
-    (λ q. rw (q, or-true (not (eqb n 0))))
-    (λ q. cases_eq n 0 (λ e. absurd (h (rw e (reply_edit m (command_of l v) q)))) (λ e. rw (ne_eqb n 0 e)))
+untaken_keeps how m (refused r) h = refl
+untaken_keeps how m (asks l v) h = untaken_by m (command_of l v) (refusal_sent (elsewhere how (v ! 0)) m (command_of l v)) h
 
 pub untaken_left : (how : Sent) (b line : List ℕ) → (answer_in how b line ≡ Taken → ⊥) → left_as_found how b line ≡ true
 unfolding answer_in left_as_found keeps step_sent

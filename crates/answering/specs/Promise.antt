@@ -6,6 +6,7 @@ use Rattle.meaning.specs.SameBook.{SameBook}
 use Rattle.meaning.specs.Lone.{step_sent, keeps, names, depository}
 use Rattle.meaning.specs.declared.Answer.{Answer}
 use Rattle.meaning.specs.declared.Answer.TheVariants.{Refused}
+use Rattle.meaning.specs.declared.Refusal.TheVariants.{UnsoundBook}
 use Rattle.meaning.specs.declared.Sent.{Sent}
 use Rattle.meaning.specs.declared.Sent.TheVariants.{Alone}
 use Rattle.book.specs.Lone.{lone_book}
@@ -14,7 +15,7 @@ use Rattle.book.specs.Sound.{sound}
 -- 1 over a book that isn't sound; else the meaning's answer, told how the line was sent, over the lone book of the
 -- depository that the line names. A line that names none is refused 2 to 5, whatever the book.
 unfoldable pub answer_in : Sent → List ℕ → List ℕ → Answer
-answer_in how b line = cond (sound b) (step_sent how (lone_book (depository line) b) line).answer (Refused 1)
+answer_in how b line = cond (sound b) (step_sent how (lone_book (depository line) b) line).answer (Refused UnsoundBook)
 
 -- depository c's records after the line: as the meaning leaves them if the line names c, else as they were
 unfoldable pub lone_after : Sent → ℕ → List ℕ → List ℕ → M.Book

@@ -4,31 +4,29 @@
 
 ghost use Rattle.std.specs.Prelude.{◌≡◌};
 ghost use Rattle.meaning.specs.Lone.{elsewhere};
-ghost use Rattle.answering.specs.Taking.{Took, Answers};
+ghost use Rattle.answering.specs.Taking.{as_answer, Took, Answers};
 
 use commands::{Command, What, command_of, is_wrong};
 use edits::edit;
 use judge::judge;
 use line::read_line;
-use meaning::{Answer, Sent};
+use meaning::{Answer, Refusal, Sent};
 use refusals::refusal;
 use status::answer_to;
 
-// What a command does to a book: the first refusal that holds is the answer, and the book stays; else a question is
+// What a command does to a book: the first refusal that holds is given, and the book stays; else a question is
 // answered, with the status where it carries the wishes, and nothing is stored; any other command is stored and gets K.
-fn take(book: &mut [u8], c: Command) -> Answer
-    ensures { Took book.old c result book.new }
+fn take(book: &mut [u8], c: Command) -> Result<Answer, Refusal>
+    ensures { Took book.old c (as_answer result) book.new }
 {
-    let n = refusal(book, c);
-    if n != 0 {
-        return Answer::Refused(n);
+    if let Some(refusal) = refusal(book, c) {
+        return Err(refusal);
     }
-    let what = c.what;
-    if let What::Ask(q, wishes) = what {
-        return answer_to(judge(book, q), wishes);
+    if let What::Ask(q, wishes) = c.what {
+        return Ok(answer_to(judge(book, q), wishes));
     }
     edit(book, c);
-    Answer::Taken
+    Ok(Answer::Taken)
 }
 
 // Whether a line of a depository, sent so, names another depository than its batch.
@@ -41,25 +39,31 @@ fn is_elsewhere(sent: Sent, csd: u8) -> bool
     }
 }
 
+// The answer to a line, or the first refusal that holds.
+fn try_answer(book: &mut [u8], line: &[u8], sound: bool, sent: Sent) -> Result<Answer, Refusal>
+    ensures { Answers sent sound book.old line.now (as_answer result) book.new }
+{
+    if !sound {
+        return Err(Refusal::UnsoundBook);
+    }
+    let l = read_line(line)?;
+    let c = command_of(l.letter, l.values);
+    if is_wrong(c) {
+        return Err(Refusal::BadField);
+    }
+    if is_elsewhere(sent, c.csd) {
+        return Err(Refusal::OtherDepository);
+    }
+    take(book, c)
+}
+
 // The answer to a line, sent alone or in a batch, over a lent book that was found to be sound, or not to be; an
 // accepted edit is stored in it.
 pub fn answer(book: &mut [u8], line: &[u8], sound: bool, sent: Sent) -> Answer
     ensures { Answers sent sound book.old line.now result book.new }
 {
-    if !sound {
-        return Answer::Refused(1);
+    match try_answer(book, line, sound, sent) {
+        Ok(answer) => answer,
+        Err(refusal) => Answer::Refused(refusal),
     }
-    let l = read_line(line);
-    if l.refusal != 0 {
-        return Answer::Refused(l.refusal);
-    }
-    let values = l.values;
-    let c = command_of(l.letter, values);
-    if is_wrong(c) {
-        return Answer::Refused(5);
-    }
-    if is_elsewhere(sent, c.csd) {
-        return Answer::Refused(12);
-    }
-    take(book, c)
 }

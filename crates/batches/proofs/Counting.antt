@@ -37,19 +37,6 @@ module _ {text : List ℕ} {n at : ℕ} (c : Counted text n at) where
 
 -- ---- the room for their answers
 
-module _ (n space : ℕ) where
-  pub too_many : most < n → false ≡ fits n space
-  unfolding fits
-  too_many h = rw (lt-leb n most h)
-
-  pub room_said : {t : Bool} → n ≤ most → t ≡ leb n (space / width) → t ≡ fits n space
-  unfolding fits
-  room_said h e =
-      rw (le-leb n most h)
-      (cases (leb n (space / width))
-      (λ x. e ∙ x ∙ sym (le-leb (width * n) space (omega (arith, leb-true n (space / width) x))))
-      (λ x. e ∙ x ∙ sym (lt-leb (width * n) space (omega (arith, leb-false n (space / width) x)))))
-
 -- of more than 64 lines as many are counted as tell that they are too many
 pub counted_fits : (n m space : ℕ) → n ≡ min (most + 1) m → fits n space ≡ fits m space
 unfolding fits

@@ -6,8 +6,6 @@ use mathlib.Core.List.{List, [], ◌∷◌, ◌++◌}
 use native.Mathlib.Omega.{arith}
 use native.Mathlib.Nat.{zero-add}
 use lib.ListN.{length, get_or, set, take, drop, replicate, length-append, length-replicate}
-use lib.Seq.{length-take-le, get_or-take}
-use Rattle.tables.specs.Padded.{padded}
 use Rattle.meaning.specs.Desk.{lines_of}
 use Rattle.meaning.specs.Printing.{printed}
 use Rattle.meaning.specs.declared.Answer.{Answer}
@@ -15,9 +13,6 @@ use Rattle.meaning.specs.declared.Sent.{Sent}
 use Rattle.text.specs.Parts.{Splits}
 use Rattle.text.specs.Printed.{Prints}
 use Rattle.text.specs.declared.lines.Span.{Span}
-use Rattle.writing.specs.Written.{space}
-use Rattle.writing.specs.declared.bytes.Written.{Written}
-use Rattle.writing.proofs.Texts.{fits}
 use Rattle.answering.specs.Taking.{answer_by, bytes_by, Answers}
 use Rattle.lines.specs.Many.{laid, answers_by, book_by}
 use Rattle.lines.proofs.Laying.{Copied, none_copied, one_copied, all_copied}
@@ -28,64 +23,48 @@ use Rattle.batches.proofs.Counting.{none_left}
 
 -- ---- one answer
 
-printed_short : {a : Answer} {p : Written} → Prints a p → length (printed a) ≤ width
-printed_short {a} {p} i =
-    omega (arith, ap length i.text, length-take-le p.len p.bytes (omega (arith, i.few, i.size)), i.few)
+-- a text has zeros behind it
+behind : (l : List ℕ) (n i : ℕ) → get_or (l ++ replicate n 0) i 0 ≡ get_or l i 0
+behind [] zero i = refl
+behind [] (suc n) zero = refl
+behind [] (suc n) (suc i) = behind [] n i
+behind (x ∷ l) n zero = refl
+behind (x ∷ l) n (suc i) = behind l n i
 
-take_padded : (m n : ℕ) (l : List ℕ) → m ≤ n → take m (padded n l) ≡ padded m l
-unfolding padded
-take_padded zero n l h = refl
-take_padded (suc m) zero l h = absurd (omega arith)
-take_padded (suc m) (suc n) [] h = ap (λ z. 0 ∷ z) (take_padded m n [] (omega arith))
-take_padded (suc m) (suc n) (x ∷ l) h = ap (λ z. x ∷ z) (take_padded m n l (omega arith))
-
-zeros : (n : ℕ) → padded n [] ≡ replicate n 0
-unfolding padded
-zeros zero = refl
-zeros (suc n) = ap (λ z. 0 ∷ z) (zeros n)
-
-padded_zeros : (n : ℕ) (l : List ℕ) → length l ≤ n → padded n l ≡ l ++ replicate (n - length l) 0
-unfolding padded
-padded_zeros n [] h = let e : n ≡ n - 0 = omega arith in zeros n ∙ ap (λ k. replicate k 0) e
-padded_zeros zero (x ∷ l) h = absurd (omega arith)
-padded_zeros (suc n) (x ∷ l) h =
-    let e : suc n - suc (length l) ≡ n - length l = omega arith in
-    rw e (ap (λ z. x ∷ z) (padded_zeros n l (omega arith)))
-
--- what is printed has zeros behind it
-first_bytes : {a : Answer} {p : Written} → Prints a p → take width p.bytes ≡ filled (printed a)
+filled_length : (l : List ℕ) → length l ≤ width → length (filled l) ≡ width
 unfolding filled
-first_bytes {a} {p} i =
-    ap (λ w. take width w.bytes) (i.whole ∙ fits (printed a) (omega (arith, printed_short i)))
-    ∙ take_padded width space (printed a) (omega arith)
-    ∙ padded_zeros width (printed a) (printed_short i)
+filled_length l h = omega (arith, length-append l (replicate (width - length l) 0), length-replicate {A = ℕ} (width - length l) 0)
 
--- o is d with the first k of 32 bytes at an index
-pub record Filled (d bytes : List ℕ) (at : ℕ) (o : List ℕ) (k : ℕ) : Type 0 where
-  pub copied : Copied d (take width bytes) at o k
-  pub size : length (take width bytes) ≡ width
+-- o is d with the first k of 32 bytes at an index, those of a text and zeros behind them
+pub record Filled (d text : List ℕ) (at : ℕ) (o : List ℕ) (k : ℕ) : Type 0 where
+  pub copied : Copied d (filled text) at o k
+  pub size : length (filled text) ≡ width
 
-module _ {d : List ℕ} {at : ℕ} {a : Answer} {p : Written} (i : Prints a p) where
-  pub none_filled : Filled d p.bytes at d 0
+module _ {d : List ℕ} {at : ℕ} {a : Answer} {p s : List ℕ} (i : Prints a p) (e : s ≡ p) where
+  pub none_filled : Filled d s at d 0
   none_filled = record {
-    copied = none_copied d (take width p.bytes) at;
-    size = length-take-le width p.bytes (omega (arith, i.size));
+    copied = none_copied d (filled s) at;
+    size = filled_length s (rw e i.few);
   }
 
-  pub all_filled : {o : List ℕ} {k : ℕ} → Filled d p.bytes at o k → width ≤ k → Put d at a o
-  all_filled f h = record {
-    whole =
-        all_copied d (take width p.bytes) at f.copied (omega (arith, f.size)) ∙ ap (laid d at) (first_bytes i);
-    few = printed_short i;
-  }
+  pub all_filled : {o : List ℕ} {k : ℕ} → Filled d s at o k → width ≤ k → Put d at a o
+  all_filled f h =
+      let t : s ≡ printed a = e ∙ i.text in
+      record {
+        whole = all_copied d (filled s) at f.copied (omega (arith, f.size)) ∙ ap (λ z. laid d at (filled z)) t;
+        few = rw (← i.text) i.few;
+      }
 
-module _ {d bytes : List ℕ} {at : ℕ} {o : List ℕ} {k : ℕ} (f : Filled d bytes at o k) (h : k < width) where
-  pub one_filled : at + width ≤ length d → Filled d bytes at (set o (at + k) (get_or bytes k 0)) (k + 1)
-  one_filled r = record {
-    copied =
-        rw (← get_or-take width bytes k 0 h) (one_copied d (take width bytes) at f.copied (omega (arith, f.size)) (omega (arith, f.size)));
-    size = f.size;
-  }
+module _ {d text : List ℕ} {at : ℕ} {o : List ℕ} {k : ℕ} (f : Filled d text at o k) (h : k < width) where
+  pub one_filled : {x : ℕ} → x ≡ get_or text k 0 → at + width ≤ length d → Filled d text at (set o (at + k) x) (k + 1)
+  unfolding filled
+  one_filled {x} e r =
+      let y : x ≡ get_or (filled text) k 0 = e ∙ sym (behind text (width - length text) k) in
+      record {
+        copied =
+            rw y (one_copied d (filled text) at f.copied (omega (arith, f.size)) (omega (arith, f.size)));
+        size = f.size;
+      }
 
   pub inside : at + width ≤ length d → at + k < length o
   inside r = omega (arith, f.copied.size)
@@ -94,10 +73,6 @@ module _ {d bytes : List ℕ} {at : ℕ} {o : List ℕ} {k : ℕ} (f : Filled d 
 
 pub turned : {b line o b' o' : List ℕ} {how : Sent} {s : Bool} {at : ℕ} {x : Answer} → Answers how s b line x b' → Put o at x o' → Turn how s b line o at (at + width) b' o'
 turned {o = o} {o' = o'} {at = at} a e = record { book = a.bytes; put = subst (λ z. Put o at z o') a.answered e; next = refl }
-
-filled_length : (l : List ℕ) → length l ≤ width → length (filled l) ≡ width
-unfolding filled
-filled_length l h = omega (arith, length-append l (replicate (width - length l) 0), length-replicate {A = ℕ} (width - length l) 0)
 
 -- ---- line after line
 

@@ -3,6 +3,7 @@ use Prim.Native.Nat.{ℕ, suc, ◌+◌, ◌*◌, ◌≤◌, min}
 use mathlib.Core.Path.{◌≡◌, refl, sym, ap, ◌∙◌}
 use mathlib.Core.Bool.{Bool, true, false, not}
 use mathlib.Core.List.{List, [], ◌∷◌}
+use Rattle.std.specs.Prelude.{Result, Ok, Err}
 use native.Mathlib.Omega.{arith}
 use lib.Dec.{leb}
 use lib.ListN.{length}
@@ -10,8 +11,8 @@ use borrow.Author.Tests.{leb-true, not-true, not-false}
 use Rattle.tables.proofs.Counts.{both}
 use Rattle.meaning.specs.Desk.{lines_of}
 use Rattle.meaning.specs.Batch.{width, most, fits, batch_result, batch_lines, spaced, space_after}
-use Rattle.meaning.specs.declared.Batch.{Batch}
-use Rattle.meaning.specs.declared.Batch.TheVariants.{Refused, Answered}
+use Rattle.meaning.specs.declared.Refusal.{Refusal}
+use Rattle.meaning.specs.declared.Refusal.TheVariants.{BatchTooLarge}
 use Rattle.meaning.specs.declared.Sent.{Sent}
 use Rattle.meaning.specs.declared.Sent.TheVariants.{InBatch}
 use Rattle.book.specs.Sound.{sound}
@@ -56,7 +57,7 @@ over_any a e = rw (← e) a
 -- premises in the order of the calls, the last one first
 module _ {b : List ℕ} (csd : ℕ) {text o : List ℕ} {n : ℕ} {q : Bool} where
   pub not_taken : q ≡ fits n (length o) → not q ≡ true → n ≡ min (most + 1) (length (lines_of text))
-      → Taken b csd text o (Refused 11) b o
+      → Taken b csd text o (Err BatchTooLarge) b o
   unfolding batch_result batch_lines book_by answers_by spaced space_after
   not_taken e f k =
       let w = whether text (length o) k e ∙ not-true q f in
@@ -64,13 +65,13 @@ module _ {b : List ℕ} (csd : ℕ) {text o : List ℕ} {n : ℕ} {q : Bool} whe
 
   pub all_taken : {b' o' : List ℕ} → TakenIn csd b text o b' o'
       → q ≡ fits n (length o) → not q ≡ false → n ≡ min (most + 1) (length (lines_of text))
-      → Taken b csd text o (Answered n) b' o'
+      → Taken b csd text o (Ok n) b' o'
   unfolding batch_result batch_lines
   all_taken a e f k =
       let w = whether text (length o) k e ∙ not-false q f in
       let lines = lines_of text in
       record {
-        result = rw w (ap Answered (counted text (length o) k e f));
+        result = rw w (ap Ok (counted text (length o) k e f));
         book = rw w a.book;
         answers = rw w a.answers;
         placed =
@@ -80,7 +81,7 @@ module _ {b : List ℕ} (csd : ℕ) {text o : List ℕ} {n : ℕ} {q : Bool} whe
 
 -- ---- what that means: each line is what is promised of a line in a batch of the depository
 
-batched : (b : List ℕ) (csd : ℕ) (text o : List ℕ) (r : Batch) (b' o' : List ℕ) → Taken b csd text o r b' o'
+batched : (b : List ℕ) (csd : ℕ) (text o : List ℕ) (r : Result ℕ Refusal) (b' o' : List ℕ) → Taken b csd text o r b' o'
     → Batched b csd text o r b' o'
 batched b csd text o r b' o' t =
     let lines = batch_lines text (length o) in
@@ -93,10 +94,10 @@ batched b csd text o r b' o' t =
 
 module _ {b : List ℕ} (csd : ℕ) {text o : List ℕ} {n : ℕ} {q : Bool} where
   pub not_batched : q ≡ fits n (length o) → not q ≡ true → n ≡ min (most + 1) (length (lines_of text))
-      → Batched b csd text o (Refused 11) b o
-  not_batched e f k = batched b csd text o (Refused 11) b o (not_taken csd e f k)
+      → Batched b csd text o (Err BatchTooLarge) b o
+  not_batched e f k = batched b csd text o (Err BatchTooLarge) b o (not_taken csd e f k)
 
   pub all_batched : {b' o' : List ℕ} → TakenIn csd b text o b' o'
       → q ≡ fits n (length o) → not q ≡ false → n ≡ min (most + 1) (length (lines_of text))
-      → Batched b csd text o (Answered n) b' o'
-  all_batched {b'} {o'} a e f k = batched b csd text o (Answered n) b' o' (all_taken csd a e f k)
+      → Batched b csd text o (Ok n) b' o'
+  all_batched {b'} {o'} a e f k = batched b csd text o (Ok n) b' o' (all_taken csd a e f k)

@@ -1,10 +1,10 @@
 -- What a batch does to a book and to its answer space. Assumes nothing.
-use Rattle.std.specs.Prelude.{ℕ, ◌+◌, ◌*◌, ◌≤◌, ◌<◌, ◌≡◌, Bool, List, length, get_or, take, drop}
+use Rattle.std.specs.Prelude.{ℕ, ◌+◌, ◌*◌, ◌≤◌, ◌<◌, ◌≡◌, Bool, List, Result, length, get_or, take, drop}
 use Rattle.meaning.specs.Desk.{lines_of}
 use Rattle.meaning.specs.Printing.{printed}
 use Rattle.meaning.specs.declared.Answer.{Answer}
 use Rattle.meaning.specs.Batch.{width, filled, spaced, space_after, batch_result, batch_lines}
-use Rattle.meaning.specs.declared.Batch.{Batch}
+use Rattle.meaning.specs.declared.Refusal.{Refusal}
 use Rattle.meaning.specs.declared.Sent.{Sent}
 use Rattle.meaning.specs.declared.Sent.TheVariants.{InBatch}
 use Rattle.book.specs.Sound.{sound}
@@ -41,7 +41,7 @@ pub record Placed (answers : List Answer) (before after : List ℕ) : Type 0 whe
   pub later : drop (width * length answers) after ≡ drop (width * length answers) before
 
 -- a batch: the lines that it stands as, over any book
-pub record Taken (before : List ℕ) (csd : ℕ) (text out : List ℕ) (r : Batch) (after out' : List ℕ) : Type 0 where
+pub record Taken (before : List ℕ) (csd : ℕ) (text out : List ℕ) (r : Result ℕ Refusal) (after out' : List ℕ) : Type 0 where
   pub result : r ≡ batch_result text (length out)
   pub book : after ≡ book_by (InBatch csd) (sound before) before (batch_lines text (length out))
   pub answers : out' ≡ space_after (answers_by (InBatch csd) (sound before) before (batch_lines text (length out))) out

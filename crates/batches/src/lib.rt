@@ -9,7 +9,8 @@ ghost use Rattle.precheck.specs.Batch.{Batched};
 ghost use Rattle.batches.specs.Taken.{Put, Turn, TakenBy, TakenIn, Taken};
 
 use answering::answer;
-use meaning::{Answer, Batch, Sent};
+use basics::byte_at;
+use meaning::{Answer, Refusal, Sent};
 use soundness::is_sound;
 use text::{next_line, print};
 
@@ -37,13 +38,11 @@ fn count_lines(text: &[u8]) -> usize
 }
 
 // Whether so many lines are a batch, and the answer space takes their answers.
+#[tactic(auto, unfolding(meaning::specs::Batch::fits))]
 fn has_room(n: usize, out: &[u8]) -> bool
     ensures { result ≡ fits n (length out.now) }
 {
-    if n > MOST {
-        return false;
-    }
-    n <= out.len() / WIDTH
+    n <= MOST && WIDTH * n <= out.len()
 }
 
 // Writes an answer to an index of the answer space, zeros behind it.
@@ -52,11 +51,9 @@ fn put_answer(out: &mut [u8], at: usize, a: Answer)
     ensures { Put out.old at a out.new }
 {
     let p = print(a);
-    let bytes = p.bytes;
-    let mut i = 0;
-    while i < WIDTH {
-        out[at + i] = bytes[i];
-        i += 1;
+    let bytes = p.as_slice();
+    for i in 0..WIDTH {
+        out[at + i] = byte_at(bytes, i);
     }
 }
 
@@ -107,14 +104,19 @@ fn answer_batch(book: &mut [u8], csd: u8, text: &[u8], out: &mut [u8])
 // A batch of a depository: the lines of a text, parted as at the desk, are answered in order, each as if it was sent
 // alone but for 12, and answer i stands in the answer space at byte 32 * i. Over 64 lines, or an answer space under 32
 // bytes a line, gets 11 before anything else, and then nothing is taken or written.
-pub fn submit_batch(book: &mut [u8], csd: u8, text: &[u8], answers: &mut [u8]) -> Batch
+pub fn submit_batch(
+    book: &mut [u8],
+    csd: u8,
+    text: &[u8],
+    answers: &mut [u8],
+) -> Result<usize, Refusal>
     ensures exactly { Taken book.old csd text.now answers.old result book.new answers.new }
     ensures meaning { Batched book.old csd text.now answers.old result book.new answers.new }
 {
     let n = count_lines(text);
     if !has_room(n, answers) {
-        return Batch::Refused(11);
+        return Err(Refusal::BatchTooLarge);
     }
     answer_batch(book, csd, text, answers);
-    Batch::Answered(n)
+    Ok(n)
 }

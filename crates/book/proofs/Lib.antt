@@ -1,6 +1,5 @@
 pub mod Looking
 pub mod Place
-pub mod BookReturns
 pub mod Lists
 pub mod SameBooks
 pub mod NoRecords

@@ -17,9 +17,6 @@ module _ {P : Type 0} (csd : P → ℕ) (at : ℕ → P) (places a i k : ℕ) (e
         → n + d ≡ count_below (λ j. eqb (csd (at j)) a && f (at j)) (k + 1)
     counted_next d t x y = rw (count_more (λ j. eqb (csd (at j)) a && f (at j)) k, x, y, count_next csd a at places f i k n e l c)
 
-    pub counted_last : k ≡ places → n ≡ count_below (λ j. eqb (csd (at j)) a && f (at j)) places
-    counted_last x = rw x at (count_next csd a at places f i k n e l c)
-
 -- ---- found, from the last place down: no place from i on is as asked, and m stands for none
 
 module _ (m places : ℕ) (p : ℕ → Bool) (i : ℕ) where

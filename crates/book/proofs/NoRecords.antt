@@ -1,10 +1,11 @@
 -- What emptying makes: a sound book, in which every depository's lone book is empty.
 use Prim.Native.Nat.{ℕ, ◌+◌, ◌≤◌}
 use mathlib.Core.Path.{◌≡◌, refl, ap, ◌∙◌}
-use mathlib.Core.Bool.{true, ◌||◌}
+use mathlib.Core.Bool.{true, false, ◌||◌, true≢false}
+use Rattle.std.specs.Prelude.{Ok, Err, is_ok}
 use mathlib.Core.List.{List}
 use native.Mathlib.Omega.{arith}
-use lib.ListN.{length}
+use lib.ListN.{length, replicate}
 use borrow.Author.Tests.{eq-eqb, ne_eqb}
 use Rattle.tables.specs.Bytes.{zeros}
 use Rattle.tables.proofs.Counts.{cases_eq, all_put}
@@ -13,6 +14,7 @@ use Rattle.tables.proofs.Listed.{place_zeros, list_zeros}
 use Rattle.meaning.specs.Records as M
 use Rattle.meaning.specs.Fields.{within}
 use Rattle.meaning.specs.Sound.{sound_lone}
+use Rattle.meaning.specs.declared.Refusal.TheVariants.{UnsoundBook}
 use Rattle.places.specs.Layout.{book_size}
 use Rattle.records.specs.Tables.{table}
 use Rattle.records.proofs.TableFacts.{lies, table_every}
@@ -23,14 +25,20 @@ use Rattle.book.proofs.Lists.{lone_list, book_equal, empty_list}
 
 -- ---- what empty does
 
-pub emptied_yes : (b b' : List ℕ) → length b ≡ book_size → b' ≡ zeros (length b) → Emptied b b' 0
+pub emptied_yes : (b b' : List ℕ) → length b ≡ book_size → b' ≡ zeros (length b)
+    → Emptied b b' (Ok tt)
 unfolding empty_answer empty_bytes
 emptied_yes b b' l e = record {
   answered = rw (eq-eqb (length b) book_size l);
   bytes = rw (eq-eqb (length b) book_size l) (e ∙ ap zeros l);
 }
 
-pub emptied_no : (b : List ℕ) → (length b ≡ book_size → ⊥) → Emptied b b 1
+-- by what `fill` ensures
+pub emptied_filled : (b b' : List ℕ) → length b ≡ book_size → b' ≡ replicate (length b) 0 → Emptied b b' (Ok tt)
+unfolding zeros
+emptied_filled b b' l e = emptied_yes b b' l e
+
+pub emptied_no : (b : List ℕ) → (length b ≡ book_size → ⊥) → Emptied b b (Err UnsoundBook)
 unfolding empty_answer empty_bytes
 emptied_no b h = record { answered = rw (ne_eqb (length b) book_size h); bytes = rw (ne_eqb (length b) book_size h) }
 
@@ -61,15 +69,15 @@ zeros_sound =
     )
 
 -- A book that emptying took is sound, and each depository's lone book is the meaning's empty book.
-pub emptied : (b b' : List ℕ) → Emptied b b' 0 → b' ≡ zeros book_size
+pub emptied : (b b' : List ℕ) → Emptied b b' (Ok tt) → b' ≡ zeros book_size
 unfolding empty_answer empty_bytes
 emptied b b' e =
     cases_eq (length b) book_size
     (λ l. rw (eq-eqb (length b) book_size l) at e.bytes)
-    (λ l. absurd (omega (arith, rw (ne_eqb (length b) book_size l) at e.answered)))
+    (λ l. absurd (true≢false (ap is_ok (rw (ne_eqb (length b) book_size l) at e.answered))))
 
-pub emptied_sound : (b b' : List ℕ) → Emptied b b' 0 → sound b' ≡ true
+pub emptied_sound : (b b' : List ℕ) → Emptied b b' (Ok tt) → sound b' ≡ true
 emptied_sound b b' e = ap sound (emptied b b' e) ∙ zeros_sound
 
-pub emptied_lone : (b b' : List ℕ) → Emptied b b' 0 → (a : ℕ) → 1 ≤ a → lone_book a b' ≡ M.empty
+pub emptied_lone : (b b' : List ℕ) → Emptied b b' (Ok tt) → (a : ℕ) → 1 ≤ a → lone_book a b' ≡ M.empty
 emptied_lone b b' e a l = ap (lone_book a) (emptied b b' e) ∙ lone_zeros book_size a l

@@ -4,11 +4,11 @@
 // what can be damaged alone, and 8 nothing.
 #![tactic(auto)]
 
-use basics::{byte_at, low, wide};
+use basics::{byte_at, low};
 use input::read_full;
-use places::{Period, RestrictionType, Row, Rule, SIZE};
+use places::{Period, Place, RestrictionType, Row, Rule, SIZE};
 use std::io;
-use stores::{put_period, put_row, put_rule, put_type};
+use stores::put;
 
 // ---- What is written.
 
@@ -27,7 +27,11 @@ fn say(rt: &impl Print, b: &[u8], what: &[u8]) -> io::Result<()> {
 }
 
 fn empty(rt: &impl Print, b: &mut [u8], what: &[u8]) -> io::Result<()> {
-    let n = book::empty(b);
+    // 0, or the number of the refusal.
+    let n = match book::empty(b) {
+        Ok(()) => 0,
+        Err(refusal) => u8::from(refusal),
+    };
     print!(rt; "{n} ")?;
     say(rt, b, what)
 }
@@ -35,16 +39,16 @@ fn empty(rt: &impl Print, b: &mut [u8], what: &[u8]) -> io::Result<()> {
 // ---- Whole quotas: 16 types, 4 rules of each, 2 rows of each rule; 128 periods, two to a party, one day apart.
 
 fn put_rows(b: &mut [u8], c: u8, i: u8, k: u16) {
-    let odd = wide(i % 2);
+    let odd = u32::from(i % 2);
     let values = [0, 0, 0, 0, 0, 0, 101 + odd, 0, 0, 0];
-    put_row(b, k, Row::new(c, i / 8 % 16 + 1, 1, i / 2 % 4 + 1, values));
-    put_period(
+    put(b, k, Row::new(c, i / 8 % 16 + 1, 1, i / 2 % 4 + 1, values));
+    put(
         b,
         k,
         Period::new(
             c,
             Period::PARTY,
-            wide(i / 2) + 1,
+            u32::from(i / 2) + 1,
             101 + odd,
             20200101 + 10 * odd,
             20200110 + 10 * odd,
@@ -63,7 +67,7 @@ fn put_own(b: &mut [u8], k: u16) {
     if i > 63 {
         return;
     }
-    put_rule(
+    put(
         b,
         k,
         Rule::new(
@@ -80,7 +84,7 @@ fn put_own(b: &mut [u8], k: u16) {
     if i > 15 {
         return;
     }
-    put_type(
+    put(
         b,
         k,
         RestrictionType::new(c, i + 1, 1, 1, 20200110, 20200120),
@@ -98,12 +102,12 @@ fn fill(b: &mut [u8]) {
 fn put_two_types(b: &mut [u8]) {
     let held = RestrictionType::PARTY_HOLD;
     let kept = RestrictionType::VALIDATION_HOLD;
-    put_type(
+    put(
         b,
         1,
         RestrictionType::new(2, 99, 1, held, 20200110, 20200120),
     );
-    put_type(
+    put(
         b,
         9,
         RestrictionType::new(2, 1, 1, kept, 20000101, 20991231),
@@ -113,17 +117,17 @@ fn put_two_types(b: &mut [u8]) {
 fn put_two_rules(b: &mut [u8]) {
     let positive = Rule::POSITIVE;
     let negative = Rule::NEGATIVE;
-    put_rule(
+    put(
         b,
         1,
         Rule::new(2, 1, 1, 77, negative, 4, 20200110, 20200120),
     );
-    put_rule(
+    put(
         b,
         9,
         Rule::new(2, 1, 1, 1, positive, 64, 20200110, 20200120),
     );
-    put_rule(
+    put(
         b,
         17,
         Rule::new(2, 1, 1, 2, positive, 520, 20200110, 20200120),
@@ -135,9 +139,9 @@ fn put_two_rows(b: &mut [u8]) {
     let code = [0, 0, 0, 0, 0, 0, 9999, 0, 0, 0];
     let words = [0, 0, 0, 1129271888, 0, 0, 0, 0, 0, 4543826];
     let kind = Period::SECURITY;
-    put_row(b, 1, Row::new(2, 1, 1, 1, code));
-    put_row(b, 9, Row::new(2, 1, 1, 2, words));
-    put_period(b, 1, Period::new(2, kind, 999999, 9999, 20200229, 20200229));
+    put(b, 1, Row::new(2, 1, 1, 1, code));
+    put(b, 9, Row::new(2, 1, 1, 2, words));
+    put(b, 1, Period::new(2, kind, 999999, 9999, 20200229, 20200229));
 }
 
 // ---- Damage.
@@ -157,19 +161,19 @@ fn sound_with(b: &mut [u8], at: u32, offset: u32, v: u8) -> bool {
 
 fn address(table: u8, place: u16) -> u32 {
     match table {
-        b'T' => places::address(RestrictionType::START, RestrictionType::WIDTH, place),
-        b'R' => places::address(Rule::START, Rule::WIDTH, place),
-        b'M' => places::address(Row::START, Row::WIDTH, place),
-        _ => places::address(Period::START, Period::WIDTH, place),
+        b'T' => places::address::<RestrictionType>(place),
+        b'R' => places::address::<Rule>(place),
+        b'M' => places::address::<Row>(place),
+        _ => places::address::<Period>(place),
     }
 }
 
 // The number of four digits.
 fn number(s: &[u8]) -> u32 {
-    wide(byte_at(s, 0) % 16) * 1000
-        + wide(byte_at(s, 1) % 16) * 100
-        + wide(byte_at(s, 2) % 16) * 10
-        + wide(byte_at(s, 3) % 16)
+    u32::from(byte_at(s, 0) % 16) * 1000
+        + u32::from(byte_at(s, 1) % 16) * 100
+        + u32::from(byte_at(s, 2) % 16) * 10
+        + u32::from(byte_at(s, 3) % 16)
 }
 
 fn damaged(rt: &impl Print, b: &mut [u8], line: &[u8]) -> io::Result<()> {
@@ -183,25 +187,13 @@ fn damaged(rt: &impl Print, b: &mut [u8], line: &[u8]) -> io::Result<()> {
     tell(rt, sound_with(b, at, offset, v), &line[17..])
 }
 
-// Where a line ends at i it is done, and the next starts behind it.
-fn ended(rt: &impl Print, b: &mut [u8], text: &[u8], from: usize, i: usize) -> io::Result<usize> {
-    if byte_at(text, i) != b'\n' {
-        return Ok(from);
-    }
-    if text.len() <= i {
-        return Ok(from);
-    }
-    if i < from {
-        return Ok(from);
-    }
-    damaged(rt, b, &text[from..i])?;
-    Ok(i + 1)
-}
-
+// What follows the last byte 10 is no line.
 fn each_line(rt: &impl Print, b: &mut [u8], text: &[u8]) -> io::Result<()> {
-    let mut from = 0;
-    for i in 0..text.len() {
-        from = ended(rt, b, text, from, i)?;
+    let Some(last) = text.iter().rposition(|byte| *byte == b'\n') else {
+        return Ok(());
+    };
+    for line in text[..last].split(|byte| *byte == b'\n') {
+        damaged(rt, b, line)?;
     }
     Ok(())
 }

@@ -7,15 +7,16 @@
 mod reading;
 mod showing;
 
-ghost use Rattle.std.specs.Prelude.{◌+◌, ◌≤◌, length};
+ghost use Rattle.std.specs.Prelude.{◌≤◌, length};
 
 use batches::submit_batch;
 use places::SIZE;
-use reading::{behind_blank, decode, number_at};
-use showing::{fill, show, show_batch, show_emptied, show_space, show_unknown};
+use reading::{behind_blank, decode, number};
+use showing::{show, show_batch, show_emptied, show_space, show_unknown};
 use std::env::{Env, FillError};
 use std::fmt::Display;
 use std::fs::File;
+use std::io;
 use std::io::Read;
 use std::rt::Files;
 
@@ -25,92 +26,23 @@ const CALL: usize = 1048576;
 // The most answer space that is lent, whatever a call's SIZE: no step writes behind it, or asks for more.
 const LENT: usize = 65536;
 
-// ---- The kinds of call. Each writes its answer.
-
-// e: empties the book.
-fn empty_book(rt: &impl Print, book: &mut [u8]) {
-    show_emptied(rt, precheck::empty(book))
+// What a call is answered in: the text that it stands for, and the answer space that a batch is lent.
+#[derive(Drop)]
+struct Spaces {
+    text: [u8; CALL],
+    answers: [u8; LENT],
 }
 
-// l TEXT: a line, sent singly.
-fn single_line(rt: &impl Print, book: &mut [u8], call: &[u8], text: &mut [u8]) {
-    let from = behind_blank(call, 1);
-    let n = decode(call, from, text);
-    show(rt, precheck::submit(book, &text[..n]))
-}
-
-// b CSD SIZE TEXT: a batch, whose answer space is filled with # first.
-fn batch(rt: &impl Print, book: &mut [u8], call: &[u8], text: &mut [u8], lent: &mut [u8]) {
-    let csd = number_at(call, behind_blank(call, 1));
-    let size = number_at(call, behind_blank(call, csd.end));
-    let from = behind_blank(call, size.end);
-    let n = decode(call, from, text);
-    answer_batch(rt, book, csd.value, &text[..n], lent, size.value)
-}
-
-fn answer_batch(
-    rt: &impl Print,
-    book: &mut [u8],
-    csd: u32,
-    text: &[u8],
-    lent: &mut [u8],
-    size: u32,
-) {
-    let n = reading::least(size, lent.len());
-    let space = &mut lent[..n];
-    fill(space, b'#');
-    let answered = submit_batch(book, reading::csd_of(csd), text, space);
-    show_batch(rt, answered);
-    show_space(rt, space)
-}
-
-fn answer_call(rt: &impl Print, book: &mut [u8], call: &[u8], text: &mut [u8], lent: &mut [u8]) {
-    match basics::byte_at(call, 0) {
-        b'e' => empty_book(rt, book),
-        b'l' => single_line(rt, book, call, text),
-        b'b' => batch(rt, book, call, text, lent),
-        _ => show_unknown(rt),
-    }
-}
-
-// ---- A call that is sent, perhaps with 'x ' before it: for that call the lent book is one byte short.
-
-// Where the call begins: behind 'x ', or at 0.
-fn behind_short(call: &[u8]) -> usize
-    ensures { result ≤ length call.now }
-{
-    if call.len() >= 2 {
-        if call[0] == b'x' {
-            return 2 * one_if_blank(call[1]);
+impl Spaces {
+    // Large arrays are made in functions of their own.
+    fn new() -> Spaces {
+        Spaces {
+            text: call_space(),
+            answers: [0u8; LENT],
         }
     }
-    0
 }
 
-fn one_if_blank(byte: u8) -> usize
-    ensures { result ≤ 1 }
-{
-    if byte == b' ' { 1 } else { 0 }
-}
-
-fn one_less(n: usize) -> usize
-    ensures { result ≤ n }
-{
-    if n == 0 { 0 } else { n - 1 }
-}
-
-fn answer_sent(rt: &impl Print, book: &mut [u8], call: &[u8], text: &mut [u8], lent: &mut [u8]) {
-    let from = behind_short(call);
-    if from > 0 {
-        let n = one_less(book.len());
-        return answer_call(rt, &mut book[..n], &call[from..], text, lent);
-    }
-    answer_call(rt, book, call, text, lent)
-}
-
-// ---- Calls are read in pieces; those that are ended are answered before more is waited for.
-
-// Space for a book, for calls and the text of one, and for answers; large arrays are made in functions of their own.
 fn book_space() -> [u8; SIZE] {
     [0u8; SIZE]
 }
@@ -119,85 +51,85 @@ fn call_space() -> [u8; CALL] {
     [0u8; CALL]
 }
 
-fn lent_space() -> [u8; LENT] {
-    [0u8; LENT]
+// ---- The kinds of call. Each writes its answer.
+
+// l TEXT: a line, sent singly.
+fn single_line(rt: &impl Print, book: &mut [u8], call: &[u8], spaces: &mut Spaces) {
+    let n = decode(behind_blank(call), &mut spaces.text);
+    show(rt, precheck::submit(book, &spaces.text[..n]))
 }
+
+// Sends a batch, whose answer space is filled with # first.
+fn send(rt: &impl Print, book: &mut [u8], csd: u8, text: &[u8], answers: &mut [u8], size: u32) {
+    let n = (size as usize).min(answers.len());
+    let space = &mut answers[..n];
+    space.fill(b'#');
+    let answered = submit_batch(book, csd, text, space);
+    show_batch(rt, answered);
+    show_space(rt, space)
+}
+
+// b CSD SIZE TEXT: a batch. A CSD above 255 is 255, which is none too.
+fn batch(rt: &impl Print, book: &mut [u8], call: &[u8], spaces: &mut Spaces) {
+    let (csd, call) = number(behind_blank(call));
+    let (size, call) = number(behind_blank(call));
+    let csd = u8::try_from(csd).unwrap_or(u8::MAX);
+    let n = decode(behind_blank(call), &mut spaces.text);
+    let text = &spaces.text[..n];
+    send(rt, book, csd, text, &mut spaces.answers, size)
+}
+
+// e: empties the book.
+fn answer_call(rt: &impl Print, book: &mut [u8], call: &[u8], spaces: &mut Spaces) {
+    match call {
+        [b'e', ..] => show_emptied(rt, precheck::empty(book)),
+        [b'l', rest @ ..] => single_line(rt, book, rest, spaces),
+        [b'b', rest @ ..] => batch(rt, book, rest, spaces),
+        _ => show_unknown(rt),
+    }
+}
+
+// A call that is sent, perhaps with 'x ' before it: for that call the lent book is one byte short.
+fn answer_sent(rt: &impl Print, book: &mut [u8], call: &[u8], spaces: &mut Spaces) {
+    match call {
+        [b'x', b' ', rest @ ..] => {
+            let n = book.len().saturating_sub(1);
+            answer_call(rt, &mut book[..n], rest, spaces)
+        }
+        _ => answer_call(rt, book, call, spaces),
+    }
+}
+
+// ---- Calls are read in pieces; those that are ended are answered before more is waited for.
 
 // Answers the ended calls, and returns where the one begins that is not ended.
-fn answer_calls(
-    rt: &impl Print,
-    book: &mut [u8],
-    calls: &[u8],
-    text: &mut [u8],
-    lent: &mut [u8],
-) -> usize
+fn answer_calls(rt: &impl Print, book: &mut [u8], calls: &[u8], spaces: &mut Spaces) -> usize
     ensures { result ≤ length calls.now }
 {
-    let mut at: usize = 0;
-    while at < calls.len() {
-        let end = text::next_line(calls, at).end;
-        if end >= calls.len() {
-            return at;
-        }
-        answer_sent(rt, book, &calls[at..end], text, lent);
-        at = end + 1;
-    }
-    at
-}
-
-// Moves the bytes from an index up to another to the front, and returns how many they are; none where there are none.
-fn keep(calls: &mut [u8], from: usize, to: usize) -> usize
-    ensures { result ≤ length calls.new }
-{
-    if from > to {
+    let Some(last) = calls.iter().rposition(|byte| *byte == b'\n') else {
         return 0;
+    };
+    for call in calls[..last].split(|byte| *byte == b'\n') {
+        answer_sent(rt, book, call, spaces);
     }
-    if to > calls.len() {
-        return 0;
-    }
-    let n = to - from;
-    let mut i = 0;
-    while i < n {
-        calls[i] = calls[from + i];
-        i += 1;
-    }
-    n
+    last + 1
 }
 
-// Reads once behind the bytes held, and returns how many came; a failure is named.
-fn read_behind<R: Read>(
-    rt: &impl Eprint,
-    input: &mut R,
-    name: &str,
-    calls: &mut [u8],
-    held: usize,
-) -> usize
-    requires { held ≤ length calls.old }
-    ensures { held + result ≤ length calls.new }
-{
-    match input.read(&mut calls[held..]) {
-        Ok(came) => came,
-        Err(why) => {
-            failed(rt, name, why);
-            0
-        }
-    }
-}
-
-// A piece came behind the bytes held: the calls that are ended now are answered, and the one that is begun is kept.
+// Of the bytes up to an index the calls that are ended are answered; the one that is begun is moved to the front, and
+// its length returned.
 fn answer_piece(
     rt: &impl Print,
     book: &mut [u8],
     calls: &mut [u8],
     to: usize,
-    text: &mut [u8],
-    lent: &mut [u8],
+    spaces: &mut Spaces,
 ) -> usize
     requires { to ≤ length calls.old }
     ensures { result ≤ length calls.new }
 {
-    let begun = answer_calls(rt, book, &calls[..to], text, lent);
-    keep(calls, begun, to)
+    let begun = answer_calls(rt, book, &calls[..to], spaces);
+    calls.copy_within(begun..to, 0);
+    to - begun
 }
 
 // The end of input ends a call too.
@@ -206,8 +138,7 @@ fn answer_end(
     book: &mut [u8],
     calls: &[u8],
     held: usize,
-    text: &mut [u8],
-    lent: &mut [u8],
+    spaces: &mut Spaces,
 )
     requires { held ≤ length calls.now }
 {
@@ -216,50 +147,59 @@ fn answer_end(
         return;
     }
     if held > 0 {
-        answer_sent(rt, book, &calls[..held], text, lent);
+        answer_sent(rt, book, &calls[..held], spaces);
     }
 }
 
-// Answers until the end of input. A proved loop has to end, so it counts its turns up to a number that no input
-// uses up.
+// Answers until the end of input, or until reading fails. A proved loop has to end, so it counts its turns up to a
+// number that no input uses up.
 fn answer_all<R: Read>(
     rt: &(impl Print + Eprint),
     input: &mut R,
-    name: &str,
     book: &mut [u8],
     calls: &mut [u8],
-    text: &mut [u8],
-    lent: &mut [u8],
-) {
+    spaces: &mut Spaces,
+) -> io::Result<()> {
     let mut held: usize = 0;
     for _ in 0..u64::MAX {
-        let came = read_behind(rt, input, name, calls, held);
-        if came == 0 {
-            return answer_end(rt, book, calls, held, text, lent);
+        match input.read(&mut calls[held..]) {
+            Ok(0) => {
+                answer_end(rt, book, calls, held, spaces);
+                return Ok(());
+            }
+            Ok(came) => held = answer_piece(rt, book, calls, held + came, spaces),
+            Err(why) => {
+                answer_end(rt, book, calls, held, spaces);
+                return Err(why);
+            }
         }
-        held = answer_piece(rt, book, calls, held + came, text, lent);
     }
+    Ok(())
 }
 
-fn answer_input<R: Read>(rt: &(impl Print + Eprint), input: &mut R, name: &str) {
+fn answer_input<R: Read>(rt: &(impl Print + Eprint), input: &mut R) -> io::Result<()> {
     let mut book = book_space();
     let mut calls = call_space();
-    let mut text = call_space();
-    let mut lent = lent_space();
-    answer_all(rt, input, name, &mut book, &mut calls, &mut text, &mut lent);
+    let mut spaces = Spaces::new();
+    answer_all(rt, input, &mut book, &mut calls, &mut spaces)
 }
 
 // ---- The files.
 
-// Names what could not be read.
+// Names what could not be read. The desk's words begin with its name; a crate for one line would be no plainer.
 fn failed<D: Display + Drop>(rt: &impl Eprint, what: &str, why: D) {
     let _ = eprintln!(rt; "{what}: {why}");
 }
 
-fn answer_file<R: Files + Print + Eprint>(rt: &R, path: &str) {
-    match File::open(rt, path) {
-        Ok(mut file) => answer_input(rt, &mut file, path),
-        Err(why) => failed(rt, path, why),
+fn answer_file<R: Files + Print + Eprint>(rt: &R, path: &str) -> io::Result<()> {
+    let mut file = File::open(rt, path)?;
+    answer_input(rt, &mut file)
+}
+
+// Answers the file that is named.
+fn answer_named<R: Files + Print + Eprint>(rt: &R, path: &str) {
+    if let Err(why) = answer_file(rt, path) {
+        failed(rt, path, why);
     }
 }
 
@@ -268,7 +208,7 @@ fn answer_argument<R: Env + Files + Print + Eprint>(rt: &R, i: usize) {
     let mut space = [0u8; 4096];
     match rt.arg(i, &mut space) {
         Ok(n) => match std::str::from_utf8(&space[..n]) {
-            Ok(path) => answer_file(rt, path),
+            Ok(path) => answer_named(rt, path),
             Err(why) => failed(rt, "the name of a file", why),
         },
         Err(_) => failed(rt, "the name of a file", "File name too long"),
@@ -286,7 +226,10 @@ fn is_given(rt: &impl Env, i: usize) -> bool {
 
 fn main(rt: HostRuntime) {
     if !is_given(&rt, 1) {
-        return answer_input(&rt, &mut rt.reader(), "standard input");
+        if let Err(why) = answer_input(&rt, &mut rt.reader()) {
+            failed(&rt, "standard input", why);
+        }
+        return;
     }
     for i in 1..usize::MAX {
         if !is_given(&rt, i) {

@@ -1,137 +1,69 @@
-// The arguments of a call (vectors/CALLS.md): numbers, and TEXT with its %XX.
-ghost use Rattle.std.specs.Prelude.{◌≤◌, length};
+// The arguments of a call (vectors/CALLS.md): numbers, and TEXT with its %XX. Each is cut from the front of what is
+// left of the call.
+ghost use Rattle.std.specs.Prelude.{◌<◌, ◌≤◌, length, IfSome};
 
-use basics::{byte_at, byte_within, wide};
-
-// A number of a call, and where it ends.
-#[derive(Drop)]
-pub(crate) struct Number {
-    pub(crate) value: u32,
-    pub(crate) end: usize,
+// The decimal number at the front, 0 where there is no digit, and what is behind it. One that is too large for its type
+// becomes the greatest, which lies outside every range too.
+pub(crate) fn number(call: &[u8]) -> (u32, &[u8]) {
+    let end = call.iter().position(|byte| !byte.is_ascii_digit());
+    let (digits, rest) = call.split_at(end.unwrap_or(call.len()));
+    let value = digits.iter().fold(0u32, |value, digit| {
+        value
+            .saturating_mul(10)
+            .saturating_add(u32::from(*digit % 16))
+    });
+    (value, rest)
 }
 
-// A number with a digit more. What is above 429496728 becomes the greatest number, which lies outside every range too.
-fn with_digit(n: u32, digit: u8) -> u32 {
-    if n > 429496728 {
-        return u32::MAX;
-    }
-    n * 10 + wide(digit) % 16
-}
-
-// The decimal number that begins at an index, 0 where there is no digit.
-pub(crate) fn number_at(call: &[u8], at: usize) -> Number {
-    let mut value: u32 = 0;
-    let mut end = at;
-    while end < call.len() {
-        let byte = call[end];
-        if !byte_within(b'0', b'9', byte) {
-            return Number { value, end };
-        }
-        value = with_digit(value, byte);
-        end += 1;
-    }
-    Number { value, end }
-}
-
-// The index behind a blank, if one stands there.
-pub(crate) fn behind_blank(call: &[u8], at: usize) -> usize {
-    if at < call.len() {
-        if call[at] == b' ' {
-            return at + 1;
-        }
-    }
-    at
-}
-
-// A depository's number of one byte: what is above is 255, which is none too.
-pub(crate) fn csd_of(n: u32) -> u8 {
-    if n > 255 {
-        return 255;
-    }
-    n as u8
-}
-
-// The lesser of a number and a length.
-pub(crate) fn least(n: u32, len: usize) -> usize
-    ensures { result ≤ len }
-{
-    let n = n as usize;
-    if n < len { n } else { len }
+// What is behind a blank, if one stands at the front.
+pub(crate) fn behind_blank(call: &[u8]) -> &[u8] {
+    call.strip_prefix(b" ").unwrap_or(call)
 }
 
 // ---- TEXT
 
-// What a capital hex digit stands for, 16 for any other byte.
-fn hex(byte: u8) -> u8 {
-    if byte < b'0' {
-        return 16;
-    }
-    if byte <= b'9' {
-        return byte - b'0';
-    }
-    if byte < b'A' {
-        return 16;
-    }
-    if byte <= b'F' {
-        return byte - b'A' + 10;
-    }
-    16
-}
-
-// A byte of TEXT, and where the next begins.
-#[derive(Drop)]
-struct Coded {
-    byte: u8,
-    next: usize,
-}
-
-// The byte that two hex digits behind an index stand for; where they are none, the byte at the index itself.
-fn coded_by(call: &[u8], at: usize, high: u8, low: u8) -> Coded
-    requires { at ≤ length call.now }
+// What a capital hex digit stands for.
+fn hex(byte: u8) -> Option<u8>
+    ensures { IfSome result (λ digit. digit < 16) }
 {
-    if high < 16 {
-        if low < 16 {
-            return Coded {
-                byte: high * 16 + low,
-                next: at + 3,
-            };
+    match byte {
+        b'0'..=b'9' => Some(byte - b'0'),
+        b'A'..=b'F' => Some(byte - b'A' + 10),
+        _ => None,
+    }
+}
+
+// The byte that two hex digits stand for.
+fn coded(high: u8, low: u8) -> Option<u8> {
+    let high = hex(high)?;
+    let low = hex(low)?;
+    Some(high * 16 + low)
+}
+
+// The byte that stands at the front, and what is behind it: of %XX the one of that number, else itself.
+fn first(code: &[u8]) -> Option<(u8, &[u8])> {
+    if let [b'%', high, low, rest @ ..] = code {
+        if let Some(byte) = coded(*high, *low) {
+            return Some((byte, rest));
         }
     }
-    Coded {
-        byte: byte_at(call, at),
-        next: at + 1,
+    match code {
+        [byte, rest @ ..] => Some((*byte, rest)),
+        [] => None,
     }
 }
 
-// The byte that stands at an index: that of %XX, else itself.
-fn coded_at(call: &[u8], at: usize) -> Coded
-    requires { at ≤ length call.now }
-{
-    if byte_at(call, at) == b'%' {
-        return coded_by(
-            call,
-            at,
-            hex(byte_at(call, at + 1)),
-            hex(byte_at(call, at + 2)),
-        );
-    }
-    coded_by(call, at, 16, 16)
-}
-
-// Writes what TEXT, from an index to the call's end, stands for, and returns its length.
-pub(crate) fn decode(call: &[u8], from: usize, text: &mut [u8]) -> usize
+// Writes what TEXT stands for, as far as there is space, and returns its length.
+pub(crate) fn decode(code: &[u8], text: &mut [u8]) -> usize
     ensures { result ≤ length text.new }
 {
-    let mut at = from;
-    let mut n: usize = 0;
-    while n < text.len() {
-        if at >= call.len() {
-            return n;
-        }
-        let coded = coded_at(call, at);
-        text[n] = coded.byte;
-        at = coded.next;
-        n += 1;
+    let mut code = code;
+    for i in 0..text.len() {
+        let Some((byte, rest)) = first(code) else {
+            return i;
+        };
+        text[i] = byte;
+        code = rest;
     }
-    n
+    text.len()
 }

@@ -1,7 +1,7 @@
 // Writes answers as vectors/CALLS.md says.
 ghost use Rattle.std.specs.Prelude.{◌≤◌, length};
 
-use meaning::{Answer, Batch};
+use meaning::{Answer, Refusal};
 
 // Writes to standard output. The gate compares what was written, so a write that fails shows there.
 fn write(rt: &impl Print, bytes: &[u8]) {
@@ -19,18 +19,15 @@ pub(crate) fn show(rt: &impl Print, answer: Answer) {
 }
 
 fn write_answer(rt: &impl Print, answer: Answer) {
-    let p = text::print(answer);
-    let n = p.len;
-    let bytes = p.bytes;
-    write(rt, &bytes[..n]);
+    write(rt, text::print(answer).as_slice());
 }
 
 // The answer to emptying: K, or its refusal.
-pub(crate) fn show_emptied(rt: &impl Print, refusal: u8) {
-    if refusal == 0 {
-        return show(rt, Answer::Taken);
+pub(crate) fn show_emptied(rt: &impl Print, emptied: Result<(), Refusal>) {
+    match emptied {
+        Ok(()) => show(rt, Answer::Taken),
+        Err(refusal) => show(rt, Answer::Refused(refusal)),
     }
-    show(rt, Answer::Refused(refusal))
 }
 
 // A call of no kind that is known has an answer too, so that those after it stay in their places.
@@ -40,19 +37,11 @@ pub(crate) fn show_unknown(rt: &impl Print) {
 
 // ---- A lent answer space
 
-pub(crate) fn fill(space: &mut [u8], byte: u8) {
-    let mut i = 0;
-    while i < space.len() {
-        space[i] = byte;
-        i += 1;
-    }
-}
-
 // The number of lines, or the refusal.
-pub(crate) fn show_batch(rt: &impl Print, answered: Batch) {
+pub(crate) fn show_batch(rt: &impl Print, answered: Result<usize, Refusal>) {
     match answered {
-        Batch::Refused(n) => write_answer(rt, Answer::Refused(n)),
-        Batch::Answered(n) => write_number(rt, n),
+        Ok(count) => write_number(rt, count),
+        Err(refusal) => write_answer(rt, Answer::Refused(refusal)),
     }
 }
 
@@ -60,32 +49,24 @@ pub(crate) fn show_batch(rt: &impl Print, answered: Batch) {
 fn written(space: &[u8]) -> usize
     ensures { result ≤ length space.now }
 {
-    let mut n = space.len();
-    while n > 0 {
-        if space[n - 1] != b'#' {
-            return n;
-        }
-        n -= 1;
+    match space.iter().rposition(|byte| *byte != b'#') {
+        Some(last) => last + 1,
+        None => 0,
     }
-    0
 }
 
 // A byte of the space as it is shown.
 fn shown(byte: u8) -> u8 {
-    if byte == 0 {
-        return b'.';
+    match byte {
+        0 => b'.',
+        b'\n' => b'/',
+        _ => byte,
     }
-    if byte == b'\n' {
-        return b'/';
-    }
-    byte
 }
 
 fn make_readable(space: &mut [u8]) {
-    let mut i = 0;
-    while i < space.len() {
-        space[i] = shown(space[i]);
-        i += 1;
+    for byte in space.iter_mut() {
+        *byte = shown(*byte);
     }
 }
 

@@ -12,6 +12,7 @@ use Rattle.tables.specs.Bytes.{Width, total, byte_at, numbers, zeros}
 use Rattle.tables.proofs.Counts.{all_more, all_at}
 use Rattle.tables.proofs.Bytes.{numbers_same}
 use Rattle.tables.proofs.Zeros.{byte_zeros}
+use Rattle.chains.specs.declared.Seen.{Seen}
 use Rattle.chains.specs.Chains.{right, Going}
 use Rattle.chains.specs.Blocks.{zero_from}
 use Rattle.chains.proofs.Chaining.{chained_free, counted_free}
@@ -28,15 +29,15 @@ zero_numbers ws b from n at e l h = numbers_same ws (zeros 0) b at 0 (λ k low h
         rw j at (eqb-true (get_or b (from + (k - from)) 0) 0 (all_at (λ j. eqb (get_or b (from + j) 0) 0) n e (k - from) (omega arith)))
         ∙ sym (byte_zeros 0 k)
 
-module _ (csd bucket : ℕ → ℕ) (places : ℕ) (free rest : ℕ → Bool) (p : ℕ → ℕ → Bool) (q : ℕ) (nobody : (k : ℕ) → free k ≡ true → csd k ≡ 0) (counts head next : List ℕ) where
+module _ (csd bucket : ℕ → ℕ) (places : ℕ) (free rest : ℕ → Bool) (p : ℕ → ℕ → Bool) (q : ℕ) (nobody : (k : ℕ) → free k ≡ true → csd k ≡ 0) (s : Seen) where
   free_right : (k : ℕ) → free k ≡ true → right csd free rest p q k ≡ true
   unfolding right
   free_right k z = rw z
 
   -- the m places from i on
-  pub going_over : (i m : ℕ) → Going csd bucket places (right csd free rest p q) i counts head next → i + m ≤ places
+  pub going_over : (i m : ℕ) → Going csd bucket places (right csd free rest p q) i s → i + m ≤ places
       → ((k : ℕ) → i ≤ k → k < i + m → free k ≡ true)
-      → Going csd bucket places (right csd free rest p q) (i + m) counts head next
+      → Going csd bucket places (right csd free rest p q) (i + m) s
   going_over i zero g l f = let e : i + 0 ≡ i = omega arith in rw e g
   going_over i (suc m) g l f =
       let r = going_over i m g (omega arith) (λ k low high. f k low (omega arith)) in
@@ -46,6 +47,6 @@ module _ (csd bucket : ℕ → ℕ) (places : ℕ) (free rest : ℕ → Bool) (p
       (record {
         few = omega arith;
         all = rw (all_more, r.all) (free_right (i + m) z);
-        counted = counted_free csd counts (i + m) r.counted (nobody (i + m) z);
-        chained = chained_free csd bucket head next (i + m) r.chained (nobody (i + m) z);
+        counted = counted_free csd s.counts (i + m) r.counted (nobody (i + m) z);
+        chained = chained_free csd bucket s (i + m) r.chained (nobody (i + m) z);
       })

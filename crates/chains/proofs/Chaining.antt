@@ -15,7 +15,8 @@ use Rattle.tables.specs.Below.{any_below}
 use Rattle.tables.specs.Keyed.{Blank}
 use Rattle.tables.proofs.Counts.{cases, cases_eq, both, count_more}
 use Rattle.chains.specs.Sizes.{owners, buckets, most_places}
-use Rattle.chains.specs.Chains.{last_below, in_bucket, Counted, Chained, Unchained, Entered, Walking}
+use Rattle.chains.specs.declared.Seen.{Seen}
+use Rattle.chains.specs.Chains.{last_below, in_bucket, Counted, Chained, NoneSeen, Tallied, Entered, Walking}
 
 last_more : (p : ℕ → Bool) (n : ℕ) → last_below p (n + 1) ≡ cond (p n) (n + 1) (last_below p n)
 unfolding last_below
@@ -60,30 +61,30 @@ module _ (csd bucket : ℕ → ℕ) (k : ℕ) (p : ℕ → Bool) (i : ℕ) where
     left = rw e (last_any (in_bucket csd bucket k) p only n ∙ a);
   }
 
-  pub walk_start : (head next : List ℕ) → ((x : ℕ) → p x ≡ true → in_bucket csd bucket k x ≡ true)
-      → Chained csd bucket head next i → k < buckets → Walking csd bucket k p i (get_or head k 0)
-  walk_start head next only m l = walk_last i (get_or head k 0) only (m.starts k l) (omega arith) refl
+  pub walk_start : (s : Seen) → ((x : ℕ) → p x ≡ true → in_bucket csd bucket k x ≡ true)
+      → Chained csd bucket s i → k < buckets → Walking csd bucket k p i (get_or s.head k 0)
+  walk_start s only m l = walk_last i (get_or s.head k 0) only (m.starts k l) (omega arith) refl
 
   -- what follows place j - 1
-  walk_next : (j : ℕ) (head next : List ℕ) → Chained csd bucket head next i → Walking csd bucket k p i j
-      → (j ≡ 0 → ⊥) → get_or next (j - 1) 0 ≡ last_below (in_bucket csd bucket k) (j - 1)
-  walk_next j head next m w h =
+  walk_next : (j : ℕ) (s : Seen) → Chained csd bucket s i → Walking csd bucket k p i j
+      → (j ≡ 0 → ⊥) → get_or s.next (j - 1) 0 ≡ last_below (in_bucket csd bucket k) (j - 1)
+  walk_next j s m w h =
       let t = both (not (eqb (csd (j - 1)) 0)) (eqb (bucket (j - 1)) k) (w.here h) in
       let u : 1 ≤ j = cases_eq j 0 (λ z. absurd (h z)) (λ z. omega (arith, z)) in
       m.follows (j - 1) (omega (arith, w.few)) (λ z. false≢true (ap (λ x. not (eqb x 0)) (sym z) ∙ t.0))
       ∙ ap (λ x. last_below (in_bucket csd bucket x) (j - 1)) (eqb-true (bucket (j - 1)) k t.1)
 
-  pub walk_on : (j : ℕ) (r : Bool) (head next : List ℕ) → Chained csd bucket head next i → Walking csd bucket k p i j
-      → (j ≡ 0 → ⊥) → r ≡ p (j - 1) → r ≡ false → Walking csd bucket k p i (get_or next (j - 1) 0)
-  walk_on j r head next m w h e f =
-      walk_last (j - 1) (get_or next (j - 1) 0) w.only (walk_next j head next m w h) (omega (arith, w.few))
+  pub walk_on : (j : ℕ) (r : Bool) (s : Seen) → Chained csd bucket s i → Walking csd bucket k p i j
+      → (j ≡ 0 → ⊥) → r ≡ p (j - 1) → r ≡ false → Walking csd bucket k p i (get_or s.next (j - 1) 0)
+  walk_on j r s m w h e f =
+      walk_last (j - 1) (get_or s.next (j - 1) 0) w.only (walk_next j s m w h) (omega (arith, w.few))
       (sym (any_on p j h ∙ ap (λ x. x || any_below p (j - 1)) (sym e ∙ f)) ∙ w.left)
 
-  pub walk_less : (j : ℕ) (head next : List ℕ) → Chained csd bucket head next i → Walking csd bucket k p i j
-      → (j ≡ 0 → ⊥) → get_or next (j - 1) 0 < j
-  walk_less j head next m w h =
+  pub walk_less : (j : ℕ) (s : Seen) → Chained csd bucket s i → Walking csd bucket k p i j
+      → (j ≡ 0 → ⊥) → get_or s.next (j - 1) 0 < j
+  walk_less j s m w h =
       let u : 1 ≤ j = cases_eq j 0 (λ z. absurd (h z)) (λ z. omega (arith, z)) in
-      omega (arith, walk_next j head next m w h, last_few (in_bucket csd bucket k) (j - 1))
+      omega (arith, walk_next j s m w h, last_few (in_bucket csd bucket k) (j - 1))
 
   pub walk_end : (j : ℕ) → Walking csd bucket k p i j → j ≡ 0 → false ≡ any_below p i
   unfolding any_below
@@ -96,9 +97,9 @@ module _ (csd bucket : ℕ → ℕ) (k : ℕ) (p : ℕ → Bool) (i : ℕ) where
 -- ---- one place more
 
 module _ (csd bucket : ℕ → ℕ) where
-  pub chained_none : (head next : List ℕ) → Unchained head next → Chained csd bucket head next 0
+  pub chained_none : (s : Seen) → NoneSeen s → Chained csd bucket s 0
   unfolding last_below
-  chained_none head next u = record {
+  chained_none s u = record {
     heads = u.heads.long;
     nexts = u.nexts.long;
     starts = λ k l. u.heads.each k l;
@@ -106,30 +107,35 @@ module _ (csd bucket : ℕ → ℕ) where
   }
 
   -- A free place is in no chain.
-  pub chained_free : (head next : List ℕ) (i : ℕ) → Chained csd bucket head next i → csd i ≡ 0
-      → Chained csd bucket head next (i + 1)
-  chained_free head next i m e = record {
+  pub chained_free : (s : Seen) (i : ℕ) → Chained csd bucket s i → csd i ≡ 0
+      → Chained csd bucket s (i + 1)
+  chained_free s i m e = record {
     heads = m.heads;
     nexts = m.nexts;
     starts = λ k l. rw (last_more, e) (m.starts k l);
     follows = λ j l h. cases_eq j i (λ z. absurd (h (ap csd z ∙ e))) (λ z. m.follows j (omega arith) h);
   }
 
-  pub chained_more : (head head' next next' : List ℕ) (k i : ℕ) → Chained csd bucket head next i
-      → Entered k i head next head' next' → i < most_places → (csd i ≡ 0 → ⊥) → k ≡ bucket i → k < buckets
-      → Chained csd bucket head' next' (i + 1)
-  chained_more head head' next next' k i m e l u z s = record {
+  pub chained_more : (s s' : Seen) (k i : ℕ) → Chained csd bucket s i
+      → Entered k i s s' → i < most_places → (csd i ≡ 0 → ⊥) → k ≡ bucket i → k < buckets
+      → Chained csd bucket s' (i + 1)
+  chained_more s s' k i m e l u z v = record {
     heads = rw (e.headed, length-set) m.heads;
     nexts = rw (e.linked, length-set) m.nexts;
     starts = λ j h.
         cases_eq j k
-        (λ f. rw (e.headed, last_more, f, ne_eqb (csd i) 0 u, eq-eqb (bucket i) k (sym z)) (get_or-set_same head k (i + 1) 0 (omega (arith, m.heads))))
-        (λ f. rw (e.headed, last_more, ne_eqb (csd i) 0 u, ne_eqb (bucket i) j (λ g. f (sym (z ∙ g)))) (get_or-set_other head k j (i + 1) 0 f ∙ m.starts j h));
+        (λ f. rw (e.headed, last_more, f, ne_eqb (csd i) 0 u, eq-eqb (bucket i) k (sym z)) (get_or-set_same s.head k (i + 1) 0 (omega (arith, m.heads))))
+        (λ f. rw (e.headed, last_more, ne_eqb (csd i) 0 u, ne_eqb (bucket i) j (λ g. f (sym (z ∙ g)))) (get_or-set_other s.head k j (i + 1) 0 f ∙ m.starts j h));
     follows = λ j h f.
         cases_eq j i
-        (λ g. rw (e.linked, g) (get_or-set_same next i (get_or head k 0) 0 (omega (arith, m.nexts)) ∙ m.starts k s ∙ ap (λ x. last_below (in_bucket csd bucket x) i) z))
-        (λ g. rw e.linked (get_or-set_other next i j (get_or head k 0) 0 g ∙ m.follows j (omega arith) f));
+        (λ g. rw (e.linked, g) (get_or-set_same s.next i (get_or s.head k 0) 0 (omega (arith, m.nexts)) ∙ m.starts k v ∙ ap (λ x. last_below (in_bucket csd bucket x) i) z))
+        (λ g. rw e.linked (get_or-set_other s.next i j (get_or s.head k 0) 0 g ∙ m.follows j (omega arith) f));
   }
+
+  -- counting leaves the chains
+  pub chained_counted : (c q : ℕ) (x : Bool) (s s' : Seen) (i : ℕ) → Tallied c q x s s' → x ≡ true
+      → Chained csd bucket s i → Chained csd bucket s' i
+  chained_counted c q x s s' i n y m = rw (n.stored y) (record { heads = m.heads; nexts = m.nexts; starts = m.starts; follows = m.follows })
 
 -- ---- counts
 

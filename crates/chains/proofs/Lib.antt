@@ -2,3 +2,4 @@ pub mod Chaining
 pub mod Earlier
 pub mod ChainPassing
 pub mod Blocking
+pub mod Walks

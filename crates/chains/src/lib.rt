@@ -1,9 +1,8 @@
-// Places of a table in chains, for any table: tables without an entry, each in a function of its own, so that no proof
-// shows its cells. What chains are and their laws: specs/Chains.antt, proofs/.
+// Places of a table in chains, for any table: what a pass over the places leaves, without an entry. What chains are and
+// their laws: specs/Chains.antt, proofs/.
 #![tactic(auto)]
 
-ghost use Rattle.tables.specs.Keyed.{Blank};
-ghost use Rattle.chains.specs.Sizes.{owners, buckets, most_places};
+ghost use Rattle.chains.specs.Chains.{NoneSeen};
 
 // Whose a place can be: the depositories 1 to 8, and 0 of a free place.
 pub const OWNERS: usize = 9;
@@ -17,23 +16,25 @@ pub const MOST_PLACES: usize = 1024;
 // How many places are seen at once to be free.
 pub const BLOCK: u16 = 32;
 
-// No depository has a place.
-pub fn no_counts() -> [u16; OWNERS]
-    ensures { Blank owners result }
-{
-    [0; OWNERS]
+// What a pass over a table knows of the places before: how many each depository has, and the used ones in chains. A
+// chain names a place by its number plus 1, and 0 is its end: an Option would double the bytes that are cleared for
+// every table.
+#[derive(Drop)]
+pub struct Seen {
+    pub counts: [u16; OWNERS],
+    pub head: [u16; BUCKETS],
+    pub next: [u16; MOST_PLACES],
 }
 
-// No bucket has a place.
-pub fn no_heads() -> [u16; BUCKETS]
-    ensures { Blank buckets result }
-{
-    [0; BUCKETS]
-}
-
-// No place is followed by another.
-pub fn no_links() -> [u16; MOST_PLACES]
-    ensures { Blank most_places result }
-{
-    [0; MOST_PLACES]
+impl Seen {
+    // Before the first place. No other function makes the arrays, so that no other proof shows their cells.
+    pub fn none() -> Seen
+        ensures { NoneSeen result }
+    {
+        Seen {
+            counts: [0; OWNERS],
+            head: [0; BUCKETS],
+            next: [0; MOST_PLACES],
+        }
+    }
 }

@@ -2,14 +2,16 @@
 -- is for.
 use Prim.Native.Nat.{ℕ, ◌%◌}
 use mathlib.Core.Path.{◌≡◌, refl, ap, ◌∙◌}
-use mathlib.Core.Bool.{Bool, false, not, cond, ◌&&◌, ◌||◌, and-true}
+use mathlib.Core.Bool.{Bool, false, not, ◌&&◌, ◌||◌, and-true}
 use mathlib.Core.List.{List, [], ◌∷◌, map}
+use mathlib.Core.Logic.{◌⊎◌, inl, inr}
+use Rattle.std.specs.Prelude.{Option}
 use lib.Dec.{eqb, ltb}
 use borrow.Author.Tests.{ne_eqb}
 use Rattle.tables.proofs.Counts.{cases}
 use Rattle.meaning.specs.Text.{bytes, same}
 use Rattle.meaning.specs.Forms.{Letter, letter_t, letter_e, letter_r, letter_o, letter_d, letter_m, letter_n, letter_a, letter_z, letter_q, letter_text, letter_byte, Shape, shape_t, shape_e, shape_r, shape_o, shape_d, shape_m, shape_n, shape_a, shape_z, shape_q_wishes, shape_q, has_letter, first_shape}
-use Rattle.meaning.specs.Records.{◌!◌, command_of}
+use Rattle.meaning.specs.Records.{◌!◌, wish_of, command_of}
 use Rattle.meaning.specs.Refusals.{wrong}
 use Rattle.meaning.specs.declared.Wishes.{Wishes}
 use Rattle.records.specs.Said.{type_of, rule_of, period_of}
@@ -44,12 +46,13 @@ module _ (v : List ℕ) (c : ℕ) where
       → k ≡ v ! 2 % 256 → c ≡ v ! 0 % 256 → p ≡ period_on (v ! 0 % 256) (v ! 2) (v ! 3) (v ! 4) (v ! 5) (v ! 6)
   made_period p k e f g = rw (e, f, g)
 
-  pub made_question : (o : ℕ) → o ≡ v ! 2 % 256 → c ≡ v ! 0 % 256
+  pub made_question : (o : ℕ) (i d : Option Bool) → d ≡ wish_of (v ! 12) → i ≡ wish_of (v ! 11) → o ≡ v ! 2 % 256
+      → c ≡ v ! 0 % 256
       → What.Ask (record { csd = c; day = v ! 1; object = o; role = v ! 3; movement = v ! 4; payment = v ! 5; transaction = v ! 6; currency = v ! 7; party = v ! 8; account = v ! 9; security = v ! 10 })
-      (record { indicator = v ! 11; default = v ! 12 })
+      (record { indicator = i; default = d })
       ≡ what_of (v ! 0 % 256) (command_of letter_q v)
   unfolding what_of command_of
-  made_question o e f = rw (e, f)
+  made_question o i d g h e f = rw (g, h, e, f)
 
   -- with a row beside
   module _ (x : What) (z : Row) where
@@ -134,14 +137,23 @@ module _ (l : Letter) (v : List ℕ) (n : ℕ) (x : Command) (w : What)
 -- ---- refusal 5 of a command
 
 module _ (c : Command) where
-  pub wrong_t : (r : Bool) (t : RestrictionType) (x : Bool) → c.what ≡ What.AddType t
-      → r ≡ (x || ltb t.last t.first) → x ≡ (eqb t.processing 3 && eqb t.object 2)
-      → r ≡ wrong (asked c)
+  pub wrong_t : (t : RestrictionType) → c.what ≡ What.AddType t
+      → ((eqb t.processing 3 && eqb t.object 2) || ltb t.last t.first) ≡ wrong (asked c)
   unfolding wrong asked_by type_of
-  wrong_t r t x e f g = rw (e, f, g)
+  wrong_t t e = rw e
 
-  pub never_wrong : (w : What) → c.what ≡ w → false ≡ wrong (asked_by c.day c.row w) → false ≡ wrong (asked c)
-  never_wrong w e f = rw e f
+  pub never_wrong : ((x : ℕ) × (y : ℕ) × (z : ℕ) × (c.what ≡ What.EndType x y z))
+      ⊎ (((x : ℕ) × (c.what ≡ What.Reorder x))
+      ⊎ ((c.what ≡ What.DeleteRule)
+      ⊎ ((c.what ≡ What.AddRow) ⊎ ((c.what ≡ What.DeleteRow) ⊎ ((x : Period) × (c.what ≡ What.EndPeriod x))))))
+      → false ≡ wrong (asked c)
+  unfolding wrong asked_by
+  never_wrong (inl (x, y, z, e)) = rw e
+  never_wrong (inr (inl (x, e))) = rw e
+  never_wrong (inr (inr (inl e))) = rw e
+  never_wrong (inr (inr (inr (inl e)))) = rw e
+  never_wrong (inr (inr (inr (inr (inl e))))) = rw e
+  never_wrong (inr (inr (inr (inr (inr (x, e)))))) = rw e
 
   pub wrong_r : (t : Rule) → c.what ≡ What.AddRule t → ltb t.last t.first ≡ wrong (asked c)
   unfolding wrong asked_by rule_of
@@ -151,8 +163,12 @@ module _ (c : Command) where
   unfolding wrong asked_by period_of
   wrong_a p e = rw e
 
-  pub wrong_q : (r : Bool) (q : Question) (w : Wishes) (x y z : Bool) → c.what ≡ What.Ask q w → r ≡ cond (eqb q.object 1) x y
-      → y ≡ not z
-      → z ≡ (eqb q.movement 0 && eqb q.payment 0) → x ≡ (eqb q.movement 0 || eqb q.payment 0) → r ≡ wrong (asked c)
+  pub wrong_1 : (q : Question) (w : Wishes) → c.what ≡ What.Ask q w → q.object ≡ 1
+      → (eqb q.movement 0 || eqb q.payment 0) ≡ wrong (asked c)
   unfolding wrong asked_by
-  wrong_q r q w x y z e f g h i = rw (e, f, g, h, i)
+  wrong_1 q w e f = rw (e, f)
+
+  pub wrong_2 : (q : Question) (w : Wishes) → c.what ≡ What.Ask q w → (q.object ≡ 1 → ⊥)
+      → not (eqb q.movement 0 && eqb q.payment 0) ≡ wrong (asked c)
+  unfolding wrong asked_by
+  wrong_2 q w e d = rw (e, ne_eqb q.object 1 d)

@@ -3,7 +3,7 @@ use Prim.Native.Nat.{ℕ, ◌%◌, ◌<◌}
 use mathlib.Core.Path.{◌≡◌, refl, ap, sym, ◌∙◌}
 use mathlib.Core.Bool.{true}
 use mathlib.Core.List.{List, ◌∷◌}
-use mathlib.Core.Option.{Option, some, none}
+use Rattle.std.specs.Prelude.{Option, Some, None}
 use native.Mathlib.Omega.{arith}
 use lib.ListN.{length, get_or}
 use borrow.Author.Tests.{leb-true}
@@ -60,8 +60,8 @@ asked_coded c d (M.ask q x) o = rw (low_same q.object o)
 
 -- a question of the meaning's as depository c's
 abbrev pub as_on : ℕ → Option (M.Question × Wishes) → Option (Question × Wishes)
-as_on c none = none
-as_on c (some (q, x)) = some (question_on c q, x)
+as_on c None = None
+as_on c (Some (q, x)) = Some (question_on c q, x)
 
 pub question_coded : (c : ℕ) (k : M.Command) → question_asked (what_of c k) ≡ as_on c (question_in k)
 unfolding what_of
@@ -78,8 +78,8 @@ question_coded c (M.ask q x) = refl
 
 -- a question as the meaning's
 abbrev pub as_meant : Option (Question × Wishes) → Option (M.Question × Wishes)
-as_meant none = none
-as_meant (some (q, x)) = some (question_of q, x)
+as_meant None = None
+as_meant (Some (q, x)) = Some (question_of q, x)
 
 pub asked_question : (d : ℕ) (w : Row) (x : What) → question_in (asked_by d w x) ≡ as_meant (question_asked x)
 unfolding asked_by
@@ -95,7 +95,7 @@ asked_question d w (What.EndPeriod p) = refl
 asked_question d w (What.Ask q x) = refl
 
 -- What the code's test for a question leaves asks no question.
-pub not_asked : (x : What) → ((q : Question) (w : Wishes) → x ≡ What.Ask q w → ⊥) → question_asked x ≡ none
+pub not_asked : (x : What) → ((q : Question) (w : Wishes) → x ≡ What.Ask q w → ⊥) → question_asked x ≡ None
 not_asked (What.AddType t) k = refl
 not_asked (What.EndType number object last) k = refl
 not_asked (What.AddRule r) k = refl

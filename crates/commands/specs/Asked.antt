@@ -1,8 +1,7 @@
 -- What a command of the code asks, as the written meaning's; and the command of the code for one of the meaning's.
 -- Assumes nothing.
 -- No position of a line's numbers is known here: the meaning's `command_of` alone knows them.
-use Rattle.std.specs.Prelude.{ℕ, ◌%◌, List, [], ◌∷◌, replicate}
-use Rattle.std.proofs.Math.Option.{Option, some, none}
+use Rattle.std.specs.Prelude.{ℕ, ◌%◌, List, [], ◌∷◌, replicate, Option, Some, None}
 use Rattle.meaning.specs.Forms.{Letter, letter_q, Shape, shapes, has_letter, first_shape}
 use Rattle.meaning.specs.Records as M
 use Rattle.meaning.specs.Records.{◌!◌, command_of}
@@ -49,16 +48,16 @@ asked c = asked_by c.day c.row c.what
 
 -- the question that is asked, if it is one, with the wishes that it carries
 abbrev pub question_asked : What → Option (Question × Wishes)
-question_asked (What.AddType t) = none
-question_asked (What.EndType number object last) = none
-question_asked (What.AddRule r) = none
-question_asked (What.Reorder new) = none
-question_asked What.DeleteRule = none
-question_asked What.AddRow = none
-question_asked What.DeleteRow = none
-question_asked (What.AddPeriod p) = none
-question_asked (What.EndPeriod p) = none
-question_asked (What.Ask q x) = some (q, x)
+question_asked (What.AddType t) = None
+question_asked (What.EndType number object last) = None
+question_asked (What.AddRule r) = None
+question_asked (What.Reorder new) = None
+question_asked What.DeleteRule = None
+question_asked What.AddRow = None
+question_asked What.DeleteRow = None
+question_asked (What.AddPeriod p) = None
+question_asked (What.EndPeriod p) = None
+question_asked (What.Ask q x) = Some (q, x)
 
 -- ---- the command of depository c for what is asked; what stands in one byte is the number's lowest byte
 
@@ -137,8 +136,8 @@ coded c day k = record { csd = c; day = day; what = what_of c k; row = row_besid
 
 -- the letter of a row; what is no row of the table is taken for Q
 abbrev pub or_question : Option Shape → Letter
-or_question none = letter_q
-or_question (some s) = s.letter
+or_question None = letter_q
+or_question (Some s) = s.letter
 
 -- the letter of a byte
 unfoldable pub letter_for : ℕ → Letter

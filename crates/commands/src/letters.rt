@@ -1,7 +1,7 @@
 // A line's command from its letter and numbers: the only code that knows where a number stands in a line.
 ghost use Rattle.std.specs.Prelude.{◌≡◌, ◌%◌};
 ghost use Rattle.meaning.specs.Forms.{letter_t, letter_r, letter_d, letter_m, letter_q};
-ghost use Rattle.meaning.specs.Records.{◌!◌, command_of};
+ghost use Rattle.meaning.specs.Records.{◌!◌, wish_of, command_of};
 ghost use Rattle.places.specs.Layout.{zero_row};
 ghost use Rattle.commands.specs.Asked.{period_on, what_of, coded, row_beside, command_on, letter_for};
 ghost use Rattle.commands.specs.declared.What.TheVariants.{AddType, AddRule};
@@ -59,6 +59,19 @@ fn period_of(v: [u32; 16]) -> Period
     Period::new(low(v[0]), low(v[2]), v[3], v[4], v[5], v[6])
 }
 
+// The number of Y in a hold indicator or an account's default; 0 is an empty one.
+const YES: u32 = 1;
+
+// What a hold indicator or an account's default says, if it isn't empty: whether it is Y.
+fn wish_of(number: u32) -> Option<bool>
+    ensures { result ≡ wish_of number }
+{
+    if number == 0 {
+        return None;
+    }
+    Some(number == YES)
+}
+
 // What Q asks, and the wishes that it carries.
 fn ask_of(v: [u32; 16]) -> What
     ensures { result ≡ what_of (v ! 0 % 256) (command_of letter_q v) }
@@ -77,8 +90,8 @@ fn ask_of(v: [u32; 16]) -> What
         security: v[10],
     };
     let wishes = Wishes {
-        indicator: v[11],
-        default: v[12],
+        indicator: wish_of(v[11]),
+        default: wish_of(v[12]),
     };
     What::Ask(question, wishes)
 }
@@ -91,7 +104,7 @@ fn plain(v: [u32; 16], what: What) -> Command
         csd: low(v[0]),
         day: v[1],
         what,
-        row: Row::zero(),
+        row: Row::default(),
     }
 }
 

@@ -8,7 +8,6 @@ ghost use Rattle.std.specs.Prelude.{◌≡◌};
 ghost use Rattle.meaning.specs.Refusals.{wrong};
 ghost use Rattle.commands.specs.Asked.{asked};
 
-use basics::{and, choose, no, or};
 pub use letters::command_of;
 use meaning::Wishes;
 use places::{Period, RestrictionType, Row, Rule};
@@ -29,7 +28,7 @@ pub struct Question {
     pub security: u32,
 }
 
-// What is asked, beside the depository, the day and the row of a command: no enum may hold an array.
+// What is asked, beside the depository, the day and the row of a command.
 #[derive(Clone, Copy)]
 pub enum What {
     AddType(RestrictionType),
@@ -57,7 +56,7 @@ pub struct Command {
     pub row: Row,
 }
 
-// What no single field shows of refusal 5.
+// What no single field shows of refusal 5. The tests are joined by `&` and `|`: an arm is then one value for its proof.
 pub fn is_wrong(c: Command) -> bool
     ensures { result ≡ wrong (asked c) }
 {
@@ -65,29 +64,27 @@ pub fn is_wrong(c: Command) -> bool
     match what {
         // Party hold is for instructions, and first is not after last.
         What::AddType(t) => {
-            let held = and(
-                t.processing == RestrictionType::PARTY_HOLD,
-                t.object == RestrictionType::RESTRICTION,
-            );
-            or(held, t.last < t.first)
+            let processing = t.processing == RestrictionType::PARTY_HOLD;
+            let object = t.object == RestrictionType::RESTRICTION;
+            processing & object | (t.last < t.first)
         }
-        What::EndType(_, _, _) => false,
         What::AddRule(r) => r.last < r.first,
-        What::Reorder(_) => false,
-        What::DeleteRule => false,
-        What::AddRow => false,
-        What::DeleteRow => false,
         What::AddPeriod(p) => p.last < p.first,
-        What::EndPeriod(_) => false,
         // Movement and payment are filled for instructions and empty for restrictions.
         What::Ask(q, _) => {
             let movement = q.movement == 0;
             let payment = q.payment == 0;
-            choose(
-                q.object == RestrictionType::INSTRUCTION,
-                or(movement, payment),
-                no(and(movement, payment)),
-            )
+            if q.object == RestrictionType::INSTRUCTION {
+                movement | payment
+            } else {
+                !(movement & payment)
+            }
         }
+        What::EndType(_, _, _)
+        | What::Reorder(_)
+        | What::DeleteRule
+        | What::AddRow
+        | What::DeleteRow
+        | What::EndPeriod(_) => false,
     }
 }

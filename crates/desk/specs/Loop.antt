@@ -1,52 +1,37 @@
 -- What the desk's loop does with an input: it hands it in pieces to `lines`. Assumes nothing.
-use Rattle.std.specs.Prelude.{ℕ, ◌+◌, ◌≤◌, ◌<◌, ◌≡◌, true, List, length, take, min, Result, Ok, Err}
+use Rattle.std.specs.Prelude.{ℕ, ◌+◌, ◌≤◌, ◌≡◌, List, length, take, min, Some, Result, Ok, Err, IfOk}
 use Rattle.book.specs.Emptied.{Emptied}
 use Rattle.lines.specs.Pieces.{at_first, Piece, End}
 use Rattle.lines.specs.Whole.{Fed, joined, Alone}
 use Rattle.lines.specs.declared.Desk.{Desk}
 use Rattle.lines.specs.declared.Step.{Step}
+use Rattle.desk.specs.declared.Failure.{Failure}
+use Rattle.desk.specs.declared.Failure.TheVariants.{Failed}
 
--- done (48), or failed (49) where the answer is an error
-abbrev pub ended_by : {E : Type 0} → Result ℕ E → ℕ
-ended_by (Ok n) = 48
-ended_by (Err e) = 49
+-- of what `read` answered into a space: how many of its bytes came, never more than it has; an error is a failure
+abbrev pub Gave : {E : Type 0} → Result ℕ E → List ℕ → Result ℕ Failure → Type 0
+Gave (Ok n) space r = r ≡ Ok (min n (length space))
+Gave (Err e) space r = r ≡ Err Failed
 
--- how many bytes of a space came: none where the answer is an error, and never more than it has
-abbrev pub came_by : {E : Type 0} → Result ℕ E → ℕ → ℕ
-came_by (Ok n) most = min n most
-came_by (Err e) most = 0
-
--- of what `read` answered into a space: how many of its bytes came, and how it ended
-pub record Gave {E : Type 0} (got : Result ℕ E) (space : List ℕ) (bytes status : ℕ) : Type 0 where
-  pub came : bytes ≡ came_by got (length space)
-  pub ended : status ≡ ended_by got
-
--- r bytes were read behind the held ones, which stay
-pub record Behind (held : ℕ) (t : List ℕ) (r : ℕ) (t' : List ℕ) : Type 0 where
+-- bytes were read behind the held ones, which stay; r says how many
+pub record Behind (held : ℕ) (t : List ℕ) (r : Result ℕ Failure) (t' : List ℕ) : Type 0 where
   pub front : take held t' ≡ take held t
-  pub inside : held + r ≤ length t'
+  pub inside : IfOk r (λ n. held + n ≤ length t')
 
--- a piece was handed on, and there was room
-pub record Hands (d : Desk) (came : ℕ) (b t : List ℕ) (d' : Desk) (b' t' : List ℕ) : Type 0 where
+-- a piece was handed on, and there was room; r is the desk after it, or that its answers could not be written
+pub record Hands (d : Desk) (came : ℕ) (b t : List ℕ) (r : Result Desk Failure) (b' t' : List ℕ) : Type 0 where
   pub out : List ℕ
   pub out' : List ℕ
   pub step : Step
-  pub piece : Piece d came b t out step b' t' out'
-  pub room : step.room ≡ true
-  pub desk : d' ≡ step.desk
+  pub piece : Piece d came b t out (Some step) b' t' out'
+  pub desk : IfOk r (λ d'. d' ≡ step.desk)
 
 -- so was the end of input
 pub record Ends (d : Desk) (b t b' : List ℕ) : Type 0 where
   pub out : List ℕ
   pub out' : List ℕ
   pub step : Step
-  pub end : End d b t out step b' out'
-  pub room : step.room ≡ true
-
--- what came was handed on; where no byte came, it is the end of input
-pub record Reads (d : Desk) (came : ℕ) (b t : List ℕ) (d' : Desk) (b' t' : List ℕ) : Type 0 where
-  pub piece : 0 < came → Hands d came b t d' b' t'
-  pub end : came ≡ 0 → Ends d b t b'
+  pub end : End d b t out (Some step) b' out'
 
 -- the pieces that were read up to the end of input, and what was written: `WholeText.whole` and `desk_alone` of `lines`
 -- speak of these
@@ -59,6 +44,6 @@ pub record Input (b t b' : List ℕ) : Type 0 where
 -- Demand 3 for it: what was written are answers of which those at the lines that name a depository are its lone book's.
 pub record OneInput (lent text after : List ℕ) : Type 0 where
   pub start : List ℕ
-  pub emptied : Emptied lent start 0
+  pub emptied : Emptied lent start (Ok tt)
   pub input : Input start text after
   pub alone : Alone (joined input.pieces) input.written

@@ -1,13 +1,10 @@
 // 'batch CSD FILE': a file is read whole and sent as one batch of a depository to an emptied book (request a).
-ghost use Rattle.std.specs.Prelude.{◌≤◌, length};
+ghost use Rattle.std.specs.Prelude.{◌≤◌, length, IfOk};
 
-use crate::{
-    DONE, FAILED, Reading, book_space, failed, file_name, read_argument, read_behind, write_line,
-    wrong,
-};
-use basics::{byte_within, wide};
+use crate::{Failure, Source, argument, book_space, failed, file_name, write_line, wrong};
 use batches::{MOST, WIDTH, submit_batch};
-use meaning::{Answer, Batch};
+use input::read_full;
+use meaning::{Answer, Refusal};
 use std::env::Env;
 use std::fs::File;
 use std::io;
@@ -22,150 +19,105 @@ fn text_space() -> [u8; TEXT] {
     [0u8; TEXT]
 }
 
-fn too_large(rt: &impl Eprint) -> u8 {
+fn too_large(rt: &impl Eprint) -> Failure {
     let _ = eprintln!(rt; "precheck: batch: the file has more than 1048575 bytes");
-    FAILED
+    Failure::Failed
 }
 
 // Reads up to the end of input.
-fn read_whole<R: Read>(rt: &impl Eprint, input: &mut R, name: &str, text: &mut [u8]) -> Reading
-    ensures { result.bytes ≤ length text.new }
+fn read_whole<R: Read>(
+    rt: &impl Eprint,
+    source: &mut Source<R>,
+    text: &mut [u8],
+) -> Result<usize, Failure>
+    ensures { IfOk result (λ n. n ≤ length text.new) }
 {
-    let mut held: usize = 0;
-    while held < text.len() {
-        let piece = read_behind(rt, input, name, text, held);
-        if piece.status != DONE {
-            return Reading {
-                bytes: 0,
-                status: piece.status,
-            };
-        }
-        if piece.bytes == 0 {
-            return Reading {
-                bytes: held,
-                status: DONE,
-            };
-        }
-        held += piece.bytes;
-    }
-    Reading {
-        bytes: 0,
-        status: too_large(rt),
+    match read_full(&mut source.reader, text) {
+        Ok(n) if n == text.len() => Err(too_large(rt)),
+        Ok(n) => Ok(n),
+        Err(why) => Err(failed(rt, source.name, why)),
     }
 }
 
 // ---- The answers, each printed as a line.
 
 // The answer in its bytes of the answer space, which zeros fill behind it.
-fn print_answer(rt: &(impl Print + Eprint), space: &[u8]) -> u8 {
-    write_line(rt, space, fields::find(space, 0, 0))
+fn print_answer(rt: &(impl Print + Eprint), space: &[u8]) -> Result<(), Failure> {
+    let n = space.iter().position(|byte| *byte == 0);
+    write_line(rt, &space[..n.unwrap_or(space.len())])
 }
 
-fn print_answers(rt: &(impl Print + Eprint), count: usize, answers: &[u8]) -> u8 {
-    let mut i: usize = 0;
-    let mut at: usize = 0;
-    while i < count {
-        if answers.len() - at < WIDTH {
-            return FAILED;
-        }
-        let next = at + WIDTH;
-        let status = print_answer(rt, &answers[at..next]);
-        if status != DONE {
-            return status;
-        }
-        i += 1;
-        at = next;
+fn print_answers(rt: &(impl Print + Eprint), count: usize, answers: &[u8]) -> Result<(), Failure> {
+    for answer in answers.chunks(WIDTH).take(count) {
+        print_answer(rt, answer)?;
     }
-    DONE
+    Ok(())
 }
 
-fn print_refusal(rt: &(impl Print + Eprint), n: u8) -> u8 {
-    let p = text::print(Answer::Refused(n));
-    let bytes = p.bytes;
-    write_line(rt, &bytes, p.len)
-}
-
-fn print_batch(rt: &(impl Print + Eprint), answered: Batch, answers: &[u8]) -> u8 {
-    match answered {
-        Batch::Refused(n) => print_refusal(rt, n),
-        Batch::Answered(n) => print_answers(rt, n, answers),
-    }
+fn print_refusal(rt: &(impl Print + Eprint), refusal: Refusal) -> Result<(), Failure> {
+    write_line(rt, text::print(Answer::Refused(refusal)).as_slice())
 }
 
 // ---- A batch
 
-fn send(rt: &(impl Print + Eprint), csd: u8, text: &[u8]) -> u8 {
+fn send(rt: &(impl Print + Eprint), csd: u8, text: &[u8]) -> Result<(), Failure> {
     let mut book = book_space();
-    precheck::empty(&mut book);
+    // A book of the exact size is never refused.
+    let _ = precheck::empty(&mut book);
     let mut answers = [0u8; MOST * WIDTH];
-    let answered = submit_batch(&mut book, csd, text, &mut answers);
-    print_batch(rt, answered, &answers)
+    match submit_batch(&mut book, csd, text, &mut answers) {
+        Ok(count) => print_answers(rt, count, &answers),
+        Err(refusal) => print_refusal(rt, refusal),
+    }
 }
 
-fn send_input<R: Read>(rt: &(impl Print + Eprint), csd: u8, input: &mut R, name: &str) -> u8 {
+fn send_input<R: Read + Drop>(
+    rt: &(impl Print + Eprint),
+    csd: u8,
+    mut source: Source<R>,
+) -> Result<(), Failure> {
     let mut text = text_space();
-    let read = read_whole(rt, input, name, &mut text);
-    if read.status != DONE {
-        return read.status;
-    }
-    let n = read.bytes;
+    let n = read_whole(rt, &mut source, &mut text)?;
     send(rt, csd, &text[..n])
 }
 
-// Sends a file, or standard input for '-'.
-fn send_file<R: Files + io::Input + Print + Eprint>(rt: &R, csd: u8, path: &str) -> u8 {
+// Sends a file, or standard input for '-'. A file and standard input are readers of two types, so what is done with a
+// reader is a function over either, here and in `answer_file`.
+fn send_file<R: Files + io::Input + Print + Eprint>(
+    rt: &R,
+    csd: u8,
+    path: &str,
+) -> Result<(), Failure> {
     if path == "-" {
-        return send_input(rt, csd, &mut rt.reader(), "standard input");
+        let reader = rt.reader();
+        let name = "standard input";
+        return send_input(rt, csd, Source { reader, name });
     }
     match File::open(rt, path) {
-        Ok(mut file) => send_input(rt, csd, &mut file, path),
-        Err(why) => failed(rt, path, why),
+        Ok(reader) => send_input(rt, csd, Source { reader, name: path }),
+        Err(why) => Err(failed(rt, path, why)),
     }
 }
 
 // ---- The arguments
 
-// A number with a digit more; what is above 255 stays as it is.
-fn with_digit(n: u32, digit: u8) -> u32 {
-    if n > 255 {
-        return n;
-    }
-    n * 10 + wide(digit) % 16
-}
-
-// The number that digits give, above 255 where a word is none. A batch of a number that is no depository is sent too:
+// A number of at most four digits; `parse` alone takes a sign too. A batch of a number that is no depository is sent:
 // its lines name another.
-fn csd_of(word: &[u8]) -> u32 {
-    let mut n: u32 = 0;
-    let mut i: usize = 0;
-    while i < word.len() {
-        let c = word[i];
-        if !byte_within(b'0', b'9', c) {
-            return 256;
-        }
-        n = with_digit(n, c);
-        i += 1;
+fn csd_argument(rt: &impl Env) -> Option<u8> {
+    let mut space = [0u8; 4];
+    let word = argument(rt, 2, &mut space);
+    if word.starts_with('+') {
+        return None;
     }
-    n
+    word.parse().ok()
 }
 
-fn csd_argument(rt: &impl Env) -> u32 {
-    let mut word = [0u8; 4];
-    let n = read_argument(rt, 2, &mut word);
-    if n == 0 {
-        return 256;
-    }
-    csd_of(&word[..n])
-}
-
-pub(crate) fn answer_batch<R: Env + Files + io::Input + Print + Eprint>(rt: &R) -> u8 {
-    let csd = csd_argument(rt);
-    if csd > 255 {
-        return wrong(rt, "precheck: batch: CSD is a number up to 255\n");
-    }
+pub(crate) fn answer_batch<R: Env + Files + io::Input + Print + Eprint>(
+    rt: &R,
+) -> Result<(), Failure> {
     let mut space = [0u8; 4096];
-    match file_name(rt, 3, &mut space) {
-        Some(path) => send_file(rt, csd as u8, path),
-        None => FAILED,
+    match csd_argument(rt) {
+        Some(csd) => send_file(rt, csd, file_name(rt, 3, &mut space)?),
+        None => Err(wrong(rt, "precheck: batch: CSD is a number up to 255\n")),
     }
 }

@@ -11,9 +11,11 @@ use Rattle.tables.specs.Table.{place_of, store, vacant, Fits}
 use Rattle.tables.proofs.Lone.{every_at}
 use Rattle.tables.proofs.Lists.{has_true}
 use Rattle.tables.proofs.Listed.{found}
+use Rattle.std.specs.Prelude.{None}
 use Rattle.meaning.specs.Records as M
 use Rattle.meaning.specs.Keys.{is_type, is_rule, is_row, is_period}
 use Rattle.meaning.specs.Refusals.{conditions, refusal}
+use Rattle.meaning.specs.declared.Refusal.TheVariants.{NotFound, QuotaFull}
 use Rattle.meaning.specs.Edits.{edited, fits, type_until, period_until}
 use Rattle.meaning.specs.Lone.{is_question}
 use Rattle.meaning.specs.declared.Wishes.{Wishes}
@@ -27,7 +29,7 @@ use Rattle.records.specs.Asks.{type_meets, rule_meets, row_meets, period_meets}
 use Rattle.records.specs.Tables.{TableName, of_types, of_rules, of_rows, of_periods, Place, Said, table}
 use Rattle.records.proofs.Holds.{type_hold, rule_hold, row_hold, period_hold}
 use Rattle.records.proofs.Tables.{row_whole}
-use Rattle.book.specs.Places.{type_hit, rule_hit, row_hit, period_hit, type_place, rule_place, row_place, period_place}
+use Rattle.book.specs.Places.{type_place, rule_place, row_place, period_place}
 use Rattle.book.specs.Lone.{types_of, rules_of, rows_of, periods_of, lone_book, list}
 use Rattle.book.proofs.Facts.{GoodBook}
 use Rattle.book.proofs.Found.{free_in}
@@ -78,26 +80,26 @@ module _ (b : List ℕ) (c : ℕ) (g : GoodBook b) (low : 1 ≤ c) (high : c ≤
 
   leaves_type : (d : ℕ) (t : M.TypeRecord) → type_fits t ≡ true → length (types_of c b) < M.type_quota
       → Leaves b (edit_in b c (M.add_type d t)) c (edited (lone_book c b) (M.add_type d t))
-  unfolding edit_in edited store_type type_of type_place type_hit type_meets
+  unfolding edit_in edited store_type type_of type_place type_meets
   leaves_type d t f l =
       more_left of_types (λ x. true) (λ x. refl) (type_in c t) (record { holds = type_hold (type_in c t) high f; whole = refl }) refl l
 
   leaves_rule : (d : ℕ) (r : M.Rule) → rule_fits r ≡ true → length (rules_of c b) < M.rule_quota
       → Leaves b (edit_in b c (M.add_rule d r)) c (edited (lone_book c b) (M.add_rule d r))
-  unfolding edit_in edited store_rule rule_of rule_place rule_hit rule_meets
+  unfolding edit_in edited store_rule rule_of rule_place rule_meets
   leaves_rule d r f l =
       more_left of_rules (λ x. true) (λ x. refl) (rule_in c r) (record { holds = rule_hold (rule_in c r) high f; whole = refl }) refl l
 
   leaves_row : (w : M.Row) → row_fits w ≡ true → length (rows_of c b) < M.row_quota
       → Leaves b (edit_in b c (M.add_row w)) c (edited (lone_book c b) (M.add_row w))
-  unfolding edit_in edited store_row row_of row_place row_hit row_meets
+  unfolding edit_in edited store_row row_of row_place row_meets
   leaves_row w f l =
       more_left of_rows (λ x. true) (λ x. refl) (row_in c w)
       (record { holds = row_hold (row_in c w) high (row_ten w f) f; whole = row_whole (row_in c w) (row_ten w f) }) refl l
 
   leaves_period : (d : ℕ) (p : M.Period) → period_fits p ≡ true → length (periods_of c b) < M.period_quota
       → Leaves b (edit_in b c (M.add_period d p)) c (edited (lone_book c b) (M.add_period d p))
-  unfolding edit_in edited store_period period_of period_place period_hit period_meets
+  unfolding edit_in edited store_period period_of period_place period_meets
   leaves_period d p f l =
       more_left of_periods (λ x. true) (λ x. refl) (period_in c p) (record { holds = period_hold (period_in c p) high f; whole = refl }) refl l
 
@@ -105,12 +107,12 @@ module _ (b : List ℕ) (c : ℕ) (g : GoodBook b) (low : 1 ≤ c) (high : c ≤
 
   leaves_rule_out : (n o s : ℕ) → has (is_rule n o s) (rules_of c b) ≡ true
       → Leaves b (edit_in b c (M.delete_rule n o s)) c (edited (lone_book c b) (M.delete_rule n o s))
-  unfolding edit_in edited deleted_rule store_rule rule_place rule_hit rule_meets
+  unfolding edit_in edited deleted_rule store_rule rule_place rule_meets
   leaves_rule_out n o s h = fewer_left of_rules (is_rule n o s) h (own.rule_once n o s)
 
   leaves_row_out : (w : M.Row) → has (is_row w) (rows_of c b) ≡ true
       → Leaves b (edit_in b c (M.delete_row w)) c (edited (lone_book c b) (M.delete_row w))
-  unfolding edit_in edited deleted_row store_row row_place row_hit row_meets
+  unfolding edit_in edited deleted_row store_row row_place row_meets row_of
   leaves_row_out w h = fewer_left of_rows (is_row w) h (own.row_once w)
 
   -- ---- E, Z
@@ -133,7 +135,7 @@ module _ (b : List ℕ) (c : ℕ) (g : GoodBook b) (low : 1 ≤ c) (high : c ≤
 
   leaves_type_end : (d n o last : ℕ) → holds day last ≡ true → has (is_type n o) (types_of c b) ≡ true
       → Leaves b (edit_in b c (M.end_type d n o last)) c (edited (lone_book c b) (M.end_type d n o last))
-  unfolding edit_in edited ended_type store_type type_place type_hit type_meets type_of
+  unfolding edit_in edited ended_type store_type type_place type_meets type_of
   leaves_type_end d n o last e h =
       let once = own.type_once n o in
       let i = place_of (table of_types) b c (is_type n o) in
@@ -144,7 +146,7 @@ module _ (b : List ℕ) (c : ℕ) (g : GoodBook b) (low : 1 ≤ c) (high : c ≤
   leaves_period_end : (d κ n o first last : ℕ) → holds day last ≡ true
       → has (is_period κ n o first) (periods_of c b) ≡ true
       → Leaves b (edit_in b c (M.end_period d κ n o first last)) c (edited (lone_book c b) (M.end_period d κ n o first last))
-  unfolding edit_in edited ended_period store_period period_place period_hit period_meets period_of
+  unfolding edit_in edited ended_period store_period period_place period_meets period_of
   leaves_period_end d κ n o first last e h =
       let once = period_once (lone_book c b) own κ n o first in
       let i = place_of (table of_periods) b c (is_period κ n o first) in
@@ -156,7 +158,7 @@ module _ (b : List ℕ) (c : ℕ) (g : GoodBook b) (low : 1 ≤ c) (high : c ≤
 
   leaves_reorder : (n o s new : ℕ) → holds sequence_form new ≡ true → has (is_rule n o s) (rules_of c b) ≡ true
       → Leaves b (edit_in b c (M.reorder n o s new)) c (edited (lone_book c b) (M.reorder n o s new))
-  unfolding edit_in reordered_rule store_rule rule_place rule_hit rule_meets reorder_in
+  unfolding edit_in reordered_rule store_rule rule_place rule_meets reorder_in
   leaves_reorder n o s new e h =
       let once = own.rule_once n o s in
       let i = place_of (table of_rules) b c (is_rule n o s) in
@@ -180,28 +182,28 @@ module _ (b : List ℕ) (c : ℕ) (g : GoodBook b) (low : 1 ≤ c) (high : c ≤
 
   -- An edit that is not refused leaves, of its depository, the meaning's edited book, and of every other depository the
   -- equal book.
-  pub edit_leaves : (k : M.Command) → fits k ≡ true → refusal (lone_book c b) k ≡ 0
+  pub edit_leaves : (k : M.Command) → fits k ≡ true → refusal (lone_book c b) k ≡ None
       → Leaves b (edit_in b c k) c (edited (lone_book c b) k)
   unfolding conditions fits every
   edit_leaves (M.add_type d t) f e =
-      leaves_type d t f (leb-false M.type_quota (length (types_of c b)) (command_not_refused (lone_book c b) (M.add_type d t) refl e 10))
+      leaves_type d t f (leb-false M.type_quota (length (types_of c b)) (command_not_refused (lone_book c b) (M.add_type d t) e QuotaFull))
   edit_leaves (M.end_type d n o last) f e =
-      leaves_type_end d n o last f (not-false (has (is_type n o) (types_of c b)) (command_not_refused (lone_book c b) (M.end_type d n o last) refl e 7))
+      leaves_type_end d n o last f (not-false (has (is_type n o) (types_of c b)) (command_not_refused (lone_book c b) (M.end_type d n o last) e NotFound))
   edit_leaves (M.add_rule d r) f e =
-      leaves_rule d r f (leb-false M.rule_quota (length (rules_of c b)) (command_not_refused (lone_book c b) (M.add_rule d r) refl e 10))
+      leaves_rule d r f (leb-false M.rule_quota (length (rules_of c b)) (command_not_refused (lone_book c b) (M.add_rule d r) e QuotaFull))
   edit_leaves (M.reorder n o s new) f e =
-      leaves_reorder n o s new f (not-false (has (is_rule n o s) (rules_of c b)) (command_not_refused (lone_book c b) (M.reorder n o s new) refl e 7))
+      leaves_reorder n o s new f (not-false (has (is_rule n o s) (rules_of c b)) (command_not_refused (lone_book c b) (M.reorder n o s new) e NotFound))
   edit_leaves (M.delete_rule n o s) f e =
-      leaves_rule_out n o s (not-false (has (is_rule n o s) (rules_of c b)) (command_not_refused (lone_book c b) (M.delete_rule n o s) refl e 7))
+      leaves_rule_out n o s (not-false (has (is_rule n o s) (rules_of c b)) (command_not_refused (lone_book c b) (M.delete_rule n o s) e NotFound))
   edit_leaves (M.add_row w) f e =
-      leaves_row w f (leb-false M.row_quota (length (rows_of c b)) (command_not_refused (lone_book c b) (M.add_row w) refl e 10))
+      leaves_row w f (leb-false M.row_quota (length (rows_of c b)) (command_not_refused (lone_book c b) (M.add_row w) e QuotaFull))
   edit_leaves (M.delete_row w) f e =
-      leaves_row_out w (not-false (has (is_row w) (rows_of c b)) (command_not_refused (lone_book c b) (M.delete_row w) refl e 7))
+      leaves_row_out w (not-false (has (is_row w) (rows_of c b)) (command_not_refused (lone_book c b) (M.delete_row w) e NotFound))
   edit_leaves (M.add_period d p) f e =
-      leaves_period d p f (leb-false M.period_quota (length (periods_of c b)) (command_not_refused (lone_book c b) (M.add_period d p) refl e 10))
+      leaves_period d p f (leb-false M.period_quota (length (periods_of c b)) (command_not_refused (lone_book c b) (M.add_period d p) e QuotaFull))
   edit_leaves (M.end_period d κ n o first last) f e =
       leaves_period_end d κ n o first last f
-      (not-false (has (is_period κ n o first) (periods_of c b)) (command_not_refused (lone_book c b) (M.end_period d κ n o first last) refl e 7))
+      (not-false (has (is_period κ n o first) (periods_of c b)) (command_not_refused (lone_book c b) (M.end_period d κ n o first last) e NotFound))
   edit_leaves (M.ask q x) f e = leaves_nothing q x
 
 -- A question's edit leaves every byte.

@@ -1,7 +1,7 @@
 -- The nine edits on the bytes of the shared book, over the meaning's command. Assumes nothing.
 -- The papers leave the place of a record free: a record more goes to a place that is free, one that is named is changed
 -- where it stands.
-use Rattle.std.specs.Prelude.{ℕ, List}
+use Rattle.std.specs.Prelude.{ℕ, cond, List, ltb}
 use Rattle.tables.specs.Table.{store}
 use Rattle.meaning.specs.Records as M
 use Rattle.places.specs.Layout.{type_at, rule_at, zero_rule, row_places, zero_row, period_at}
@@ -9,7 +9,6 @@ use Rattle.places.specs.declared.RestrictionType.{RestrictionType}
 use Rattle.places.specs.declared.Rule.{Rule}
 use Rattle.places.specs.declared.Row.{Row}
 use Rattle.places.specs.declared.Period.{Period}
-use Rattle.records.specs.Said.{row_of}
 use Rattle.records.specs.Tables.{of_types, of_rules, of_rows, of_periods, table}
 use Rattle.records.specs.declared.TypeAsk.TheVariants as Types
 use Rattle.records.specs.declared.RuleAsk.TheVariants as Rules
@@ -51,23 +50,23 @@ period_ended d r = record { csd = r.csd; kind = r.kind; number = r.number; code 
 
 -- ---- a free place: a place of depository 0
 
--- the row beside what is asked, where none is meant
-abbrev pub no_row : M.Row
-no_row = row_of zero_row
-
 abbrev pub free_type : List ℕ → ℕ
 free_type b = type_place b 0 Types.Any
 
 abbrev pub free_rule : List ℕ → ℕ
-free_rule b = rule_place b 0 Rules.Any no_row
+free_rule b = rule_place b 0 Rules.Any
 
 abbrev pub free_row : List ℕ → ℕ
-free_row b = row_place b 0 Rows.Any no_row
+free_row b = row_place b 0 Rows.Any
 
 abbrev pub free_period : List ℕ → ℕ
 free_period b = period_place b 0 Periods.Any
 
 -- ---- stores: nothing where there is no place
+
+-- in a table of that many places, by its own store
+abbrev pub stored : {P : Type 0} → ℕ → (List ℕ → ℕ → P → List ℕ) → List ℕ → ℕ → P → List ℕ
+stored places put b i r = cond (ltb i places) (put b i r) b
 
 unfoldable pub store_type : List ℕ → ℕ → RestrictionType → List ℕ
 store_type b i r = store (table of_types) b i r
@@ -92,17 +91,21 @@ ended_period b p =
     let i = period_place b p.csd (Periods.Named p.kind p.number p.code p.first) in
     store_period b i (period_ended p.last (period_at b i))
 
+-- the rule that is named
+abbrev pub rule_named : List ℕ → ℕ → ℕ → ℕ → ℕ → ℕ
+rule_named b c n o s = rule_place b c (Rules.Named n o s)
+
 -- D and N
 unfoldable pub deleted_rule : List ℕ → ℕ → ℕ → ℕ → ℕ → List ℕ
-deleted_rule b c n o s = store_rule b (rule_place b c (Rules.Named n o s) no_row) zero_rule
+deleted_rule b c n o s = store_rule b (rule_named b c n o s) zero_rule
 
 unfoldable pub deleted_row : List ℕ → ℕ → M.Row → List ℕ
-deleted_row b c w = store_row b (row_place b c Rows.Same w) zero_row
+deleted_row b c w = store_row b (row_place b c (Rows.Same (row_in c w))) zero_row
 
 -- O
 unfoldable pub reordered_rule : List ℕ → ℕ → ℕ → ℕ → ℕ → ℕ → List ℕ
 reordered_rule b c n o s new =
-    let i = rule_place b c (Rules.Named n o s) no_row in
+    let i = rule_named b c n o s in
     carry_rows c n o s new (store_rule b i (rule_with new (rule_at b i))) row_places
 
 unfoldable pub edit_in : List ℕ → ℕ → M.Command → List ℕ

@@ -1,5 +1,5 @@
 -- What an edit leaves of the lone books, and what an accepted one makes of a sound book (demand 2). Assumes nothing.
-use Rattle.std.specs.Prelude.{ℕ, ◌≤◌, ◌≡◌, true, List, length}
+use Rattle.std.specs.Prelude.{ℕ, ◌≤◌, ◌≡◌, true, List, None, length}
 use Rattle.meaning.specs.Records as M
 use Rattle.meaning.specs.Refusals.{refusal}
 use Rattle.meaning.specs.Edits as meant
@@ -21,7 +21,7 @@ pub record Accepted (b : List ℕ) (c : ℕ) (k : M.Command) : Type 0 where
   pub low : 1 ≤ c
   pub high : c ≤ 8
   pub fits : meant.fits k ≡ true
-  pub unrefused : refusal (lone_book c b) k ≡ 0
+  pub unrefused : refusal (lone_book c b) k ≡ None
 
 -- its depository holds exactly the records that the meaning leaves it, every other exactly what it held, and the book
 -- is sound

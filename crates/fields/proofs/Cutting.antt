@@ -1,19 +1,21 @@
--- What an index in a line has to do with the fields of the meaning. The loop's record, `FoundTo`, is its invariant:
--- what was passed before index i, with what is left from i on, gives the whole. The laws take just what the code knows
--- at that place, so that `search LAW` closes the need.
-use mathlib.Core.Path.{◌≡◌, refl, sym, ◌∙◌}
-use mathlib.Core.Bool.{Bool, true, false, cond}
+-- What an index in a line has to do with the fields of the meaning.
+use mathlib.Core.Path.{◌≡◌, refl, ◌∙◌}
+use mathlib.Core.Bool.{Bool, true, false, not, cond}
 use mathlib.Core.List.{List, [], ◌∷◌}
 use Prim.Native.Nat.{ℕ, suc, ◌+◌, ◌-◌, ◌≤◌, ◌<◌}
 use native.Mathlib.Numerals.{add-one}
 use native.Mathlib.Omega.{arith}
-use lib.Dec.{eqb}
-use borrow.Author.Tests.{eq-eqb, ne_eqb, lt-ltb, le-ltb}
+use lib.Dec.{eqb, ltb}
+use Rattle.std.specs.Prelude.{Option, Some, None}
+use Rattle.std.specs.Option.{unwrap_or}
+use Rattle.std.specs.List.{position_or_len}
+use Rattle.tables.proofs.Counts.{cases}
+use borrow.Author.Tests.{ltb-false}
 use lib.ListN.{length, get_or, take, drop, length-drop, drop_of_length-le}
 use lib.Seq.{drop-cons, drop-drop}
 use Rattle.meaning.specs.Text.{place}
 use Rattle.meaning.specs.Fields.{is_comma, before, fields}
-use Rattle.fields.specs.Cut.{more, Cuts, end_after, Passes}
+use Rattle.fields.specs.Cut.{more, Cuts}
 
 -- the next element, and what is left after it
 pub next : (l : List ℕ) (i : ℕ) → i < length l → drop i l ≡ get_or l i 0 ∷ drop (i + 1) l
@@ -21,20 +23,15 @@ next l i h = rw add-one (drop-cons l i 0 h)
 
 -- ---- the place of a byte
 
-pub record FoundTo (c : ℕ) (l : List ℕ) (at i : ℕ) : Type 0 where
-  pub left : i + place c (drop i l) ≡ at + place c (drop at l)
-
-module _ {c : ℕ} {l : List ℕ} {at i : ℕ} where
-  pub found_next : FoundTo c l at i → i < length l → (get_or l i 0 ≡ c → ⊥) → FoundTo c l at (i + 1)
-  found_next r h e =
-      let s : place c (drop i l) ≡ place c (drop (i + 1) l) + 1 = rw (next l i h, ne_eqb _ _ e) (sym (add-one _)) in
-      record { left = omega (arith, r.left) }
-
-  pub found_here : FoundTo c l at i → i < length l → get_or l i 0 ≡ c → i ≡ at + place c (drop at l)
-  found_here r h e = let s : place c (drop i l) ≡ 0 = rw (next l i h, eq-eqb _ _ e) in omega (arith, r.left)
-
-  pub found_end : FoundTo c l at i → length l ≤ i → i ≡ at + place c (drop at l)
-  found_end r h = let s : place c (drop i l) ≡ 0 = rw (drop_of_length-le l h) in omega (arith, r.left)
+-- it is what `position` finds
+place_position : (c : ℕ) (l : List ℕ) → position_or_len (λ x. eqb x c) l ≡ place c l
+place_position c [] = refl
+place_position c (x ∷ xs) = go (eqb x c) (place_position c xs)
+  where
+    go : (b : Bool) → position_or_len (λ x. eqb x c) xs ≡ place c xs
+        → cond (not b) (1 + position_or_len (λ x. eqb x c) xs) 0 ≡ cond b 0 (suc (place c xs))
+    go true e = refl
+    go false e = omega (arith, e)
 
 pub place_bound : (c : ℕ) (l : List ℕ) → place c l ≤ length l
 place_bound c [] = omega arith
@@ -43,6 +40,16 @@ place_bound c (x ∷ xs) = go (eqb x c) (place_bound c xs)
     go : (b : Bool) → place c xs ≤ length xs → cond b 0 (suc (place c xs)) ≤ suc (length xs)
     go true h = omega arith
     go false h = omega arith
+
+-- the end of a list that has no c is where `position` finds none
+pub position_place : (c : ℕ) (l : List ℕ) {r : Option ℕ}
+    → r ≡ cond (ltb (position_or_len (λ x. eqb x c) l) (length l)) (Some (position_or_len (λ x. eqb x c) l)) None
+    → unwrap_or r (length l) ≡ place c l
+position_place c l e =
+    rw (e, place_position c l)
+    (cases (ltb (place c l) (length l))
+    (λ f. rw f)
+    (λ f. rw f (let h = ltb-false (place c l) (length l) f in omega (arith, place_bound c l))))
 
 -- ---- the fields
 
@@ -72,25 +79,11 @@ cuts l at {e} q = record {
 }
 
 -- the field after the comma at i ends at e
-pub passes : (l : List ℕ) (i : ℕ) {e : ℕ} → i < length l → Cuts l (i + 1) e → Passes l i e
-unfolding more end_after
-passes l i h q = record {
-  whole = rw (lt-ltb i (length l) h) q.whole;
-  field = λ k. rw (next l i h) q.field;
-  none = λ k. absurd (omega arith);
-  from = omega (arith, q.from);
-  later = λ k. omega (arith, q.from);
-  inside = λ k. q.inside (omega arith);
-}
+pub passes : (l : List ℕ) (i : ℕ) {e : ℕ} → i < length l → Cuts l (i + 1) e → more (drop i l) ≡ take (e - (i + 1)) (drop (i + 1) l) ∷ more (drop e l)
+unfolding more
+passes l i h q = rw (next l i h) q.field
 
 -- no field is after the line's end
-pub passes_none : (l : List ℕ) (i : ℕ) → length l ≤ i → Passes l i i
-unfolding more end_after
-passes_none l i h = record {
-  whole = rw (le-ltb i (length l) h);
-  field = λ k. absurd (omega arith);
-  none = λ k. rw (drop_of_length-le l h);
-  from = omega arith;
-  later = λ k. absurd (omega arith);
-  inside = λ k. k;
-}
+pub passes_none : (l : List ℕ) (i : ℕ) → length l ≤ i → more (drop i l) ≡ []
+unfolding more
+passes_none l i h = rw (drop_of_length-le l h)

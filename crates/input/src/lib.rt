@@ -1,4 +1,4 @@
-// Input that is read whole, for the test programs.
+// Input that is read whole, for a batch at the desk and for the test programs.
 #![tactic(auto)]
 
 ghost use Rattle.std.specs.Prelude.{◌≤◌, length, IfOk};

@@ -4,6 +4,7 @@ use Prim.Native.Nat.{ℕ, ◌+◌, ◌≤◌, ◌<◌}
 use mathlib.Core.Path.{◌≡◌, refl, ap, sym, ◌∙◌}
 use mathlib.Core.Bool.{Bool, true, false, ◌&&◌, ◌||◌, cond}
 use mathlib.Core.List.{List}
+use Rattle.std.specs.Prelude.{Option, unwrap_or}
 use native.Mathlib.Omega.{arith}
 use lib.Dec.{eqb}
 use lib.ListN.{length, get_or, set, length-set, length-replicate, get_or-replicate}
@@ -13,16 +14,19 @@ use Rattle.tables.proofs.Counts.{cases_eq}
 use Rattle.meaning.specs.Records.{positive, negative}
 use Rattle.rules.specs.Search.{no_rule, may_decide, first_positive, sequence_of}
 use Rattle.rules.specs.declared.ListedRule.{ListedRule}
-use Rattle.rules.specs.declared.First.{First}
-use Rattle.rules.specs.declared.First.TheVariants.{At, Nothing}
 use Rattle.rules.proofs.Rising.{rising}
 use Rattle.judge.specs.Stages.{sequences, sign_key, judged_rule, none_listed, Listed, first_rule}
 
 module _ (rules : ℕ → Bool) where
-  pub judged_by_lem : (s sign kp kn : ℕ) (p n m : Bool) → m ≡ (p || n) → sign ≡ cond p positive negative → n ≡ rules kn
-      → kn ≡ sign_key s negative → p ≡ rules kp → kp ≡ sign_key s positive
-      → record { sequence = s; sign = sign; matches = m } ≡ judged_rule rules s
-  judged_by_lem s sign kp kn p n m em es en en' ep ep' = rw (em, es, en, en', ep, ep')
+  pub judged_positive : (s k : ℕ) (p : Bool) → p ≡ rules k → k ≡ sign_key s positive → p ≡ true
+      → record { sequence = s; sign = positive; matches = true } ≡ judged_rule rules s
+  judged_positive s k p e ek h = let r : rules (sign_key s positive) ≡ true = ap rules (sym ek) ∙ sym e ∙ h in rw r
+
+  pub judged_negative : (s k kn : ℕ) (p n : Bool) → n ≡ rules kn → kn ≡ sign_key s negative → p ≡ rules k
+      → k ≡ sign_key s positive → p ≡ false
+      → record { sequence = s; sign = negative; matches = n } ≡ judged_rule rules s
+  judged_negative s k kn p n en ekn e ek h =
+      let r : rules (sign_key s positive) ≡ false = ap rules (sym ek) ∙ sym e ∙ h in rw (r, en, ekn)
 
   -- ---- the list, one sequence after the other
 
@@ -62,10 +66,6 @@ module _ (rules : ℕ → Bool) where
       (omega (arith, m.long))
       ∙ ap (least_below (λ s. cond (rules (sign_key s positive)) s 0)) m.long
 
-  pub first_at : (t : List ListedRule) (f : First) (s : ℕ) → f ≡ At s → f ≡ first_positive t → Listed rules sequences t
-      → s ≡ first_rule rules
-  first_at t f s e d m = ap sequence_of (sym e ∙ d) ∙ firsts t m
-
-  pub first_nothing : (t : List ListedRule) (f : First) → f ≡ Nothing → f ≡ first_positive t → Listed rules sequences t
-      → 0 ≡ first_rule rules
-  first_nothing t f e d m = ap sequence_of (sym e ∙ d) ∙ firsts t m
+  pub first_by : (t : List ListedRule) (f : Option ℕ) (s : ℕ) → s ≡ unwrap_or f 0 → f ≡ first_positive t
+      → Listed rules sequences t → s ≡ first_rule rules
+  first_by t f s e d m = e ∙ ap sequence_of d ∙ firsts t m

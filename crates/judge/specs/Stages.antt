@@ -3,9 +3,8 @@
 -- type that is named. A stage leaves marks, tests of the keys of a table of numbers; each definition is of any bytes.
 -- Assumes nothing.
 use Rattle.std.specs.Prelude.{ℕ, ◌+◌, ◌*◌, ◌<◌, ◌≤◌, ◌≡◌, Bool, false, ◌&&◌, ◌||◌, not, cond, List, eqb, length, get_or, replicate}
-use Rattle.tables.specs.Count.{lesser}
 use Rattle.tables.specs.Below.{least_below}
-use Rattle.tables.specs.Keyed.{keys, leasts, after_place}
+use Rattle.tables.specs.Keyed.{keys, leasts}
 use Rattle.meaning.specs.Records.{positive, negative, rejection, validation_hold, party_hold}
 use Rattle.meaning.specs.Judging.{covers, by}
 use Rattle.meaning.specs.declared.Deciding.{Deciding}
@@ -59,11 +58,6 @@ unfoldable pub rule_matches : Question → (ℕ → Bool) → Rule → Bool
 rule_matches q rows r =
     eqb r.object q.object && (covers r.first r.last q.day && rows (rule_key r.number r.sequence))
 
--- the table of signs, after the rule at place i
-abbrev pub mark_sign : List ℕ → Question → (ℕ → Bool) → ℕ → List ℕ → List ℕ
-mark_sign b q rows i t =
-    after_place (λ r. r.csd) q.csd typed_key (rule_matches q rows) (λ r m. 1) (rule_at b i) t
-
 unfoldable pub signs_matched : List ℕ → Question → (ℕ → Bool) → ℕ → Bool
 signs_matched b q rows =
     keys (λ r. r.csd) q.csd (rule_at b) typed_key (rule_matches q rows) type_keys rule_places
@@ -76,11 +70,6 @@ type_applies q over signs t =
     (eqb t.object q.object && covers t.first t.last q.day)
     && ((signs (type_key t.number positive) && not (signs (type_key t.number negative))) && not (over t))
 
--- the lowest type of each processing, after the type at place i
-abbrev pub name_type : List ℕ → Question → (RestrictionType → Bool) → (ℕ → Bool) → ℕ → List ℕ → List ℕ
-name_type b q over signs i n =
-    after_place (λ t. t.csd) q.csd (λ t. t.processing) (type_applies q over signs) (λ t m. lesser t.number m) (type_at b i) n
-
 unfoldable pub types_named : List ℕ → Question → (RestrictionType → Bool) → (ℕ → Bool) → ℕ → ℕ
 types_named b q over signs =
     leasts (λ t. t.csd) q.csd (type_at b) (λ t. t.processing) (type_applies q over signs) (λ t. t.number) processings type_places
@@ -92,11 +81,6 @@ unfoldable pub type_exempted : Question → (ℕ → Bool) → RestrictionType �
 type_exempted q signs t =
     (eqb t.object q.object && covers t.first t.last q.day) && signs (type_key t.number negative)
 
--- the table of types exempted, by number, after the type at place i
-abbrev pub mark_exempted : List ℕ → Question → (ℕ → Bool) → ℕ → List ℕ → List ℕ
-mark_exempted b q signs i n =
-    after_place (λ t. t.csd) q.csd (λ t. t.number) (type_exempted q signs) (λ t m. 1) (type_at b i) n
-
 unfoldable pub types_exempted : List ℕ → Question → (ℕ → Bool) → ℕ → Bool
 types_exempted b q signs =
     keys (λ t. t.csd) q.csd (type_at b) (λ t. t.number) (type_exempted q signs) type_numbers type_places
@@ -107,11 +91,6 @@ types_exempted b q signs =
 unfoldable pub rule_of_type : Question → (ℕ → Bool) → ℕ → Rule → Bool
 unfolding rule_matches
 rule_of_type q rows type r = eqb r.number type && rule_matches q rows r
-
--- the table of the type's matching rules, after the rule at place i
-abbrev pub mark_rule : List ℕ → Question → (ℕ → Bool) → ℕ → ℕ → List ℕ → List ℕ
-mark_rule b q rows type i t =
-    after_place (λ r. r.csd) q.csd signed_key (rule_of_type q rows type) (λ r m. 1) (rule_at b i) t
 
 unfoldable pub rules_matched : List ℕ → Question → (ℕ → Bool) → ℕ → ℕ → Bool
 rules_matched b q rows type =

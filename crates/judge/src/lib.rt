@@ -13,18 +13,21 @@ ghost use Rattle.commands.specs.Asked.{question_of};
 ghost use Rattle.matching.specs.MatchedRows.{rule_keys};
 ghost use Rattle.tables.specs.Count.{lesser};
 ghost use Rattle.tables.specs.Keyed.{marked, Blank};
-ghost use Rattle.judge.specs.Stages.{sign_key, type_key, sign_keys, type_keys, processings, sequences, type_numbers, rule_matches, rule_of_type, mark_rule, rules_matched, mark_sign, signs_matched, type_applies, name_type, types_named, type_exempted, mark_exempted, types_exempted, judged_rule, none_listed, Listed, first_rule, decided, verdict, judged_by};
+ghost use Rattle.judge.specs.Stages.{sign_key, type_key, sign_keys, type_keys, processings, sequences, type_numbers, signed_key, typed_key, rule_matches, rule_of_type, rules_matched, signs_matched, type_applies, types_named, type_exempted, types_exempted, judged_rule, none_listed, Listed, first_rule, decided, verdict, judged_by};
 ghost use Rattle.judge.specs.Within.{whole, none_passed, type_passed, rows_within, judged_within, exempted_within, lone_within, lone_counted};
 
-use basics::{and, no, or, pick_byte};
+use basics::byte_at;
 use commands::Question;
-use marks::{is_marked, look, store};
+use marks::{blank, is_marked, key};
 use matching::{RULE_KEYS, covers, mark_rules, rule_key};
 use meaning::{Deciding, Verdict};
 use newrules::mark_new_rules;
-use owners::{next_rule, next_type};
+use passes::{Pass, run};
 use places::{RestrictionType, Rule};
-use rules::{First, ListedRule};
+use rules::{ListedRule, first_positive};
+
+// The keys of a type or of a sequence, one for each sign of a rule, and 0.
+const SIGNS: usize = 3;
 
 // The sizes of the tables of marks, by their keys, and of the list of a type's rules, by sequence.
 const SIGN_KEYS: usize = 300;
@@ -38,7 +41,9 @@ const SEQUENCES: u8 = 100;
 // The size of the tables by type number, 1 to 99.
 const TYPE_NUMBERS: usize = 100;
 
-// What counts where a question is judged.
+// Where tests of several calls are joined by `&` and `|`, the proof takes them together.
+
+// What counts where a question is judged. The flags stay: each is asked on its own, and none has a value beside it.
 #[derive(Clone, Copy)]
 pub struct Scope {
     // Only the rules that are new on the question's day count.
@@ -69,7 +74,8 @@ pub struct Judgement {
     pub exempted: [u8; TYPE_NUMBERS],
 }
 
-// The smaller of two numbers, where 0 stands for none.
+// The smaller of two numbers, where 0 stands for none, as in the meaning's `Deciding`: an entry of a table of bytes, so
+// that an Option would be turned into this byte and back.
 fn lesser(a: u8, b: u8) -> u8
     ensures { result ≡ lesser a b }
 {
@@ -82,45 +88,11 @@ fn lesser(a: u8, b: u8) -> u8
     if a < b { a } else { b }
 }
 
-// Tables of numbers, addressed by key.
-
-fn sign_key(sequence: u16, sign: u8) -> usize
-    ensures { result ≡ sign_key sequence sign }
-{
-    sequence as usize * 3 + sign as usize
-}
-
-fn type_key(number: u8, sign: u8) -> usize
+// The key of a type, or of a type's rule by its sequence, with the sign of a rule.
+fn signed_key(number: u8, sign: u8) -> usize
     ensures { result ≡ type_key number sign }
 {
-    number as usize * 3 + sign as usize
-}
-
-// A processing, or the number of a type, is a key as it stands.
-fn number_key(number: u8) -> usize
-    ensures { result ≡ number }
-{
-    number as usize
-}
-
-// Tables without a mark, each in a function of its own, so that no proof shows its cells.
-
-fn row_space() -> [u8; RULE_KEYS]
-    ensures { length result ≡ rule_keys }
-{
-    [0; RULE_KEYS]
-}
-
-fn no_rules() -> [u8; SIGN_KEYS]
-    ensures { Blank sign_keys result }
-{
-    [0; SIGN_KEYS]
-}
-
-fn no_signs() -> [u8; TYPE_KEYS]
-    ensures { Blank type_keys result }
-{
-    [0; TYPE_KEYS]
+    key::<SIGNS>(u32::from(number), sign)
 }
 
 // A table of types to be passed over that has none.
@@ -128,26 +100,6 @@ pub fn none_passed() -> [u8; 1]
     ensures { marked result ≡ none_passed }
 {
     [0]
-}
-
-fn none_exempted() -> [u8; TYPE_NUMBERS]
-    ensures { Blank type_numbers result }
-{
-    [0; TYPE_NUMBERS]
-}
-
-// No type for any processing, 0 to 3.
-fn no_types() -> [u8; PROCESSINGS]
-    ensures { Blank processings result }
-{
-    [0; PROCESSINGS]
-}
-
-// The lower of a number and the entry at a key, where 0 stands for none.
-fn lower(t: &[u8], k: usize, number: u8) -> u8
-    ensures { result ≡ lesser number (get_or t.now k 0) }
-{
-    lesser(number, look(t, k))
 }
 
 // 3. The signs of which a rule of a type matches.
@@ -158,33 +110,43 @@ fn rule_matches(q: Question, rows: &[u8], r: Rule) -> bool
 {
     let current = covers(r.first, r.last, q.day);
     let matched = is_marked(rows, rule_key(r.number, r.sequence));
-    and(r.object == q.object, and(current, matched))
+    (r.object == q.object) & (current & matched)
 }
 
-// Marks the sign of the rule at a place for its type, if the rule matches.
-fn mark_sign(t: &mut [u8], b: &[u8], q: Question, rows: &[u8], i: u16)
-    ensures { t.new ≡ mark_sign b.now q (marked rows.now) i t.old }
-{
-    if places::rule_csd(b, i) == q.csd {
-        let r = places::rule_at(b, i);
-        let matched = rule_matches(q, rows, r);
-        store(t, type_key(r.number, r.sign), matched, 1);
+// The marks of the signs of which a rule of each type matches.
+#[derive(Clone, Copy)]
+struct Signs<'a> {
+    q: Question,
+    rows: &'a [u8],
+}
+
+impl<'a> Pass for Signs<'a> {
+    type Record = Rule;
+
+    ghost on = { λ s r. rule_matches s.q (marked s.rows.now) r };
+
+    ghost key = { λ s r. typed_key r };
+
+    ghost entry = { λ s r m. 1 };
+
+    fn is_on(&self, r: Rule) -> bool {
+        rule_matches(self.q, self.rows, r)
+    }
+
+    fn key(&self, r: Rule) -> usize {
+        signed_key(r.number, r.sign)
+    }
+
+    fn entry(&self, _r: Rule, _before: u8) -> u8 {
+        1
     }
 }
 
 fn signs_matched(b: &[u8], q: Question, rows: &[u8]) -> [u8; TYPE_KEYS]
     ensures { marked result ≡ signs_matched b.now q (marked rows.now) }
 {
-    let mut t = no_signs();
-    let mut i: u16 = 0;
-    while i < Rule::PLACES {
-        let k = next_rule(b, i, q.csd);
-        if k == Rule::PLACES {
-            return t;
-        }
-        mark_sign(&mut t, b, q, rows, k);
-        i = k + 1;
-    }
+    let mut t: [u8; TYPE_KEYS] = blank();
+    run(&Signs { q, rows }, &mut t, b, q.csd);
     t
 }
 
@@ -194,141 +156,152 @@ fn signs_matched(b: &[u8], q: Question, rows: &[u8]) -> [u8; TYPE_KEYS]
 fn passed_over(s: Scope, passed: &[u8], t: RestrictionType) -> bool
     ensures { result ≡ type_passed s (marked passed.now) t }
 {
-    let validating = and(
-        s.validating,
-        t.processing == RestrictionType::VALIDATION_HOLD,
-    );
-    let holding = and(s.holding, t.processing == RestrictionType::PARTY_HOLD);
-    or(
-        is_marked(passed, number_key(t.number)),
-        or(validating, holding),
-    )
+    let validating = s.validating & (t.processing == RestrictionType::VALIDATION_HOLD);
+    let holding = s.holding & (t.processing == RestrictionType::PARTY_HOLD);
+    is_marked(passed, usize::from(t.number)) | (validating | holding)
 }
 
-// A current type that is not passed over, of which a positive rule matches and no negative one does, wherever it stands
-// in sequence.
-fn type_applies(q: Question, s: Scope, passed: &[u8], signs: &[u8], t: RestrictionType) -> bool
-    ensures { result ≡ type_applies q (type_passed s (marked passed.now)) (marked signs.now) t }
-{
-    let current = covers(t.first, t.last, q.day);
-    let positive = is_marked(signs, type_key(t.number, Rule::POSITIVE));
-    let negative = is_marked(signs, type_key(t.number, Rule::NEGATIVE));
-    and(
-        and(t.object == q.object, current),
-        and(and(positive, no(negative)), no(passed_over(s, passed, t))),
-    )
+// The lowest type of each processing that applies, by the types passed over and the signs of which a rule matches.
+#[derive(Clone, Copy)]
+struct Named<'a> {
+    q: Question,
+    scope: Scope,
+    passed: &'a [u8],
+    signs: &'a [u8],
 }
 
-// Keeps the type at a place, if it applies and is the lowest of its processing so far.
-fn name_type(t: &mut [u8], b: &[u8], q: Question, s: Scope, passed: &[u8], signs: &[u8], i: u16)
-    ensures { t.new ≡ name_type b.now q (type_passed s (marked passed.now)) (marked signs.now) i t.old }
-{
-    if places::type_csd(b, i) == q.csd {
-        let r = places::type_at(b, i);
-        let k = number_key(r.processing);
-        let lowest = lower(t, k, r.number);
-        store(t, k, type_applies(q, s, passed, signs, r), lowest);
+impl<'a> Pass for Named<'a> {
+    type Record = RestrictionType;
+
+    ghost on = { λ s t. type_applies s.q (type_passed s.scope (marked s.passed.now)) (marked s.signs.now) t };
+
+    ghost key = { λ s t. t.processing };
+
+    ghost entry = { λ s t m. lesser t.number m };
+
+    // A current type that is not passed over, of which a positive rule matches and no negative one does, wherever it
+    // stands in sequence.
+    fn is_on(&self, t: RestrictionType) -> bool {
+        let current = covers(t.first, t.last, self.q.day);
+        let positive = is_marked(self.signs, signed_key(t.number, Rule::POSITIVE));
+        let negative = is_marked(self.signs, signed_key(t.number, Rule::NEGATIVE));
+        let deciding = positive & !negative;
+        ((t.object == self.q.object) & current)
+            & (deciding & !passed_over(self.scope, self.passed, t))
+    }
+
+    fn key(&self, t: RestrictionType) -> usize {
+        usize::from(t.processing)
+    }
+
+    fn entry(&self, t: RestrictionType, before: u8) -> u8 {
+        lesser(t.number, before)
     }
 }
 
-fn types_named(b: &[u8], q: Question, s: Scope, passed: &[u8], signs: &[u8]) -> [u8; PROCESSINGS]
-    ensures { (λ k. get_or result k 0) ≡ types_named b.now q (type_passed s (marked passed.now)) (marked signs.now) }
+fn types_named(b: &[u8], asked: &Named<'_>) -> [u8; PROCESSINGS]
+    ensures { (λ k. get_or result k 0) ≡ types_named b.now asked.now.q (type_passed asked.now.scope (marked asked.now.passed.now)) (marked asked.now.signs.now) }
 {
-    let mut t = no_types();
-    let mut i: u16 = 0;
-    while i < RestrictionType::PLACES {
-        let k = next_type(b, i, q.csd);
-        if k == RestrictionType::PLACES {
-            return t;
-        }
-        name_type(&mut t, b, q, s, passed, signs, k);
-        i = k + 1;
-    }
+    let mut t: [u8; PROCESSINGS] = blank();
+    run(asked, &mut t, b, asked.q.csd);
     t
 }
 
-// The types exempted.
-
-// A current type, of which a negative rule matches.
-fn type_exempted(q: Question, signs: &[u8], t: RestrictionType) -> bool
-    ensures { result ≡ type_exempted q (marked signs.now) t }
-{
-    let in_force = covers(t.first, t.last, q.day);
-    let exempts = is_marked(signs, type_key(t.number, Rule::NEGATIVE));
-    and(and(t.object == q.object, in_force), exempts)
+// The marks of the types exempted, by the signs of which a rule matches.
+#[derive(Clone, Copy)]
+struct Exempted<'a> {
+    q: Question,
+    signs: &'a [u8],
 }
 
-// Marks the number of the type at a place, if it is exempted.
-fn mark_exempted(t: &mut [u8], b: &[u8], q: Question, signs: &[u8], i: u16)
-    ensures { t.new ≡ mark_exempted b.now q (marked signs.now) i t.old }
-{
-    if places::type_csd(b, i) == q.csd {
-        let r = places::type_at(b, i);
-        store(t, number_key(r.number), type_exempted(q, signs, r), 1);
+impl<'a> Pass for Exempted<'a> {
+    type Record = RestrictionType;
+
+    ghost on = { λ s t. type_exempted s.q (marked s.signs.now) t };
+
+    ghost key = { λ s t. t.number };
+
+    ghost entry = { λ s t m. 1 };
+
+    // A current type, of which a negative rule matches.
+    fn is_on(&self, t: RestrictionType) -> bool {
+        let in_force = covers(t.first, t.last, self.q.day);
+        let exempts = is_marked(self.signs, signed_key(t.number, Rule::NEGATIVE));
+        (t.object == self.q.object) & in_force & exempts
+    }
+
+    fn key(&self, t: RestrictionType) -> usize {
+        usize::from(t.number)
+    }
+
+    fn entry(&self, _t: RestrictionType, _before: u8) -> u8 {
+        1
     }
 }
 
 fn types_exempted(b: &[u8], q: Question, signs: &[u8]) -> [u8; TYPE_NUMBERS]
     ensures { marked result ≡ types_exempted b.now q (marked signs.now) }
 {
-    let mut t = none_exempted();
-    let mut i: u16 = 0;
-    while i < RestrictionType::PLACES {
-        let k = next_type(b, i, q.csd);
-        if k == RestrictionType::PLACES {
-            return t;
-        }
-        mark_exempted(&mut t, b, q, signs, k);
-        i = k + 1;
-    }
+    let mut t: [u8; TYPE_NUMBERS] = blank();
+    run(&Exempted { q, signs }, &mut t, b, q.csd);
     t
 }
 
 // 5. The rules of a type that is named, looked through in rising sequence.
 
-fn rule_of_type(q: Question, rows: &[u8], number: u8, r: Rule) -> bool
-    ensures { result ≡ rule_of_type q (marked rows.now) number r }
-{
-    and(r.number == number, rule_matches(q, rows, r))
+// The marks of a type's matching rules, by sequence and sign.
+#[derive(Clone, Copy)]
+struct TypeRules<'a> {
+    q: Question,
+    rows: &'a [u8],
+    number: u8,
 }
 
-// Marks the rule at a place by its sequence and sign, if it is the type's and matches.
-fn mark_rule(t: &mut [u8], b: &[u8], q: Question, rows: &[u8], number: u8, i: u16)
-    ensures { t.new ≡ mark_rule b.now q (marked rows.now) number i t.old }
-{
-    if places::rule_csd(b, i) == q.csd {
-        let r = places::rule_at(b, i);
-        let key = sign_key(r.sequence as u16, r.sign);
-        store(t, key, rule_of_type(q, rows, number, r), 1);
+impl<'a> Pass for TypeRules<'a> {
+    type Record = Rule;
+
+    ghost on = { λ s r. rule_of_type s.q (marked s.rows.now) s.number r };
+
+    ghost key = { λ s r. signed_key r };
+
+    ghost entry = { λ s r m. 1 };
+
+    fn is_on(&self, r: Rule) -> bool {
+        (r.number == self.number) & rule_matches(self.q, self.rows, r)
+    }
+
+    fn key(&self, r: Rule) -> usize {
+        signed_key(r.sequence, r.sign)
+    }
+
+    fn entry(&self, _r: Rule, _before: u8) -> u8 {
+        1
     }
 }
 
-fn rules_matched(t: &mut [u8], b: &[u8], q: Question, rows: &[u8], number: u8)
-    requires { Blank sign_keys t.old }
-    ensures { marked t.new ≡ rules_matched b.now q (marked rows.now) number }
+fn rules_matched(b: &[u8], q: Question, rows: &[u8], number: u8) -> [u8; SIGN_KEYS]
+    ensures { marked result ≡ rules_matched b.now q (marked rows.now) number }
 {
-    let mut i: u16 = 0;
-    while i < Rule::PLACES {
-        let k = next_rule(b, i, q.csd);
-        if k == Rule::PLACES {
-            return;
-        }
-        mark_rule(t, b, q, rows, number, k);
-        i = k + 1;
-    }
+    let mut t: [u8; SIGN_KEYS] = blank();
+    run(&TypeRules { q, rows, number }, &mut t, b, q.csd);
+    t
 }
 
 // The type's rule at a sequence, as judged. A sound book has one rule there at most, so one mark.
 fn judged_rule(rules: &[u8], sequence: u8) -> ListedRule
     ensures { result ≡ judged_rule (marked rules.now) sequence }
 {
-    let s = sequence as u16;
-    let positive = is_marked(rules, sign_key(s, Rule::POSITIVE));
-    let negative = is_marked(rules, sign_key(s, Rule::NEGATIVE));
+    if is_marked(rules, signed_key(sequence, Rule::POSITIVE)) {
+        return ListedRule {
+            sequence,
+            sign: Rule::POSITIVE,
+            matches: true,
+        };
+    }
     ListedRule {
         sequence,
-        sign: pick_byte(positive, Rule::POSITIVE, Rule::NEGATIVE),
-        matches: or(positive, negative),
+        sign: Rule::NEGATIVE,
+        matches: is_marked(rules, signed_key(sequence, Rule::NEGATIVE)),
     }
 }
 
@@ -359,30 +332,28 @@ fn rules_listed(rules: &[u8]) -> [ListedRule; SEQUENCES as usize]
 fn first_rule(rules: &[u8]) -> u8
     ensures { result ≡ first_rule (marked rules.now) }
 {
-    match rules::first_of(rules_listed(rules)) {
-        First::At(sequence) => sequence,
-        First::Nothing => 0,
-    }
+    first_positive(&rules_listed(rules)).unwrap_or(0)
 }
 
 // The deciding rule of a type.
 fn deciding_rule(b: &[u8], q: Question, rows: &[u8], number: u8) -> u8
     ensures { result ≡ first_rule (rules_matched b.now q (marked rows.now) number) }
 {
-    let mut rules = no_rules();
-    rules_matched(&mut rules, b, q, rows, number);
+    let rules = rules_matched(b, q, rows, number);
     first_rule(&rules)
 }
+
+const NO_TYPE: Deciding = Deciding {
+    number: 0,
+    sequence: 0,
+};
 
 // A type, if any, with its deciding rule.
 fn decided(b: &[u8], q: Question, rows: &[u8], number: u8) -> Deciding
     ensures { result ≡ decided (rules_matched b.now q (marked rows.now)) number }
 {
     if number == 0 {
-        return Deciding {
-            number: 0,
-            sequence: 0,
-        };
+        return NO_TYPE;
     }
     Deciding {
         number,
@@ -390,11 +361,11 @@ fn decided(b: &[u8], q: Question, rows: &[u8], number: u8) -> Deciding
     }
 }
 
-// The type named for a processing, 0 for none.
+// The type named for a processing, 0 for none. The number is the table's key, as in the records: no enum.
 fn named_for(named: &[u8], processing: u8) -> u8
     ensures { result ≡ get_or named.now processing 0 }
 {
-    look(named, number_key(processing))
+    byte_at(named, usize::from(processing))
 }
 
 // Rejection comes first, and a rejected instruction shows no hold.
@@ -402,16 +373,19 @@ fn verdict(b: &[u8], q: Question, rows: &[u8], named: &[u8]) -> Verdict
     ensures { result ≡ verdict (rules_matched b.now q (marked rows.now)) (λ k. get_or named.now k 0) }
 {
     let rejecting = named_for(named, RestrictionType::REJECTION);
-    let accepted = rejecting == 0;
-    let validation = pick_byte(
-        accepted,
-        named_for(named, RestrictionType::VALIDATION_HOLD),
-        0,
-    );
-    let party = pick_byte(accepted, named_for(named, RestrictionType::PARTY_HOLD), 0);
+    if rejecting != 0 {
+        return Verdict {
+            rejected: true,
+            rejection: decided(b, q, rows, rejecting),
+            validation: NO_TYPE,
+            party: NO_TYPE,
+        };
+    }
+    let validation = named_for(named, RestrictionType::VALIDATION_HOLD);
+    let party = named_for(named, RestrictionType::PARTY_HOLD);
     Verdict {
-        rejected: no(accepted),
-        rejection: decided(b, q, rows, rejecting),
+        rejected: false,
+        rejection: NO_TYPE,
         validation: decided(b, q, rows, validation),
         party: decided(b, q, rows, party),
     }
@@ -423,11 +397,17 @@ pub fn judge(book: &[u8], q: Question) -> Verdict
     ensures by_bytes { result ≡ judged_by book.now q }
     ensures meant { sound_lone (lone_book q.csd book.now) ≡ true → result ≡ judged (lone_book q.csd book.now) (question_of q) }
 {
-    let mut rows = row_space();
+    let mut rows: [u8; RULE_KEYS] = blank();
     mark_rules(&mut rows, book, q);
     let signs = signs_matched(book, q, &rows);
     let none = none_passed();
-    let named = types_named(book, q, Scope::whole(), &none, &signs);
+    let asked = Named {
+        q,
+        scope: Scope::whole(),
+        passed: &none,
+        signs: &signs,
+    };
+    let named = types_named(book, &asked);
     verdict(book, q, &rows, &named)
 }
 
@@ -437,12 +417,12 @@ fn rules_within(t: &mut [u8], b: &[u8], q: Question, fresh: bool)
     ensures { marked t.new ≡ rows_within b.now q fresh }
 {
     if fresh {
-        let mut rows = row_space();
+        let mut rows: [u8; RULE_KEYS] = blank();
         mark_rules(&mut rows, b, q);
         mark_new_rules(t, b, q, &rows);
-        return;
+    } else {
+        mark_rules(t, b, q);
     }
-    mark_rules(t, b, q);
 }
 
 // What is found on a question by a scope, where the types marked in a lent table, by number, are passed over too. It is
@@ -454,10 +434,16 @@ pub fn judge_within(book: &[u8], q: Question, s: Scope, passed: &[u8]) -> Judgem
     ensures meant { sound_lone (lone_book q.csd book.now) ≡ true → result.verdict ≡ judged (lone_within book.now q s (marked passed.now)) (question_of q) }
     ensures exempts_meant { sound_lone (lone_book q.csd book.now) ≡ true → marked result.exempted ≡ exempted (lone_counted book.now q s) (question_of q) }
 {
-    let mut rows = row_space();
+    let mut rows: [u8; RULE_KEYS] = blank();
     rules_within(&mut rows, book, q, s.fresh);
     let signs = signs_matched(book, q, &rows);
-    let named = types_named(book, q, s, passed, &signs);
+    let asked = Named {
+        q,
+        scope: s,
+        passed,
+        signs: &signs,
+    };
+    let named = types_named(book, &asked);
     Judgement {
         verdict: verdict(book, q, &rows, &named),
         exempted: types_exempted(book, q, &signs),

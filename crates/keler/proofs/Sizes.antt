@@ -25,11 +25,12 @@ use Rattle.meaning.specs.Forms.{
   is_day,
   holds,
   holds_all,
-  shapes,
 }
 use Rattle.meaning.specs.Writing.{written}
 use Rattle.meaning.specs.Keler.{keler_types, keler_rules, keler_rows, keler_lines}
-use Rattle.shapes.specs.Table.{shape_at}
+use Rattle.shapes.specs.declared.Shape.{Shape as RowName}
+use Rattle.shapes.specs.declared.Shape.TheVariants.{T, R, M}
+use Rattle.shapes.specs.Table.{row_of}
 use Rattle.writing.proofs.Widths.{right_fits, right_long}
 use Rattle.keler.specs.Lines.{type_line, rule_line, row_line}
 use Rattle.keler.proofs.SetLines.{type_line_lem, rule_line_lem, row_line_lem}
@@ -37,7 +38,7 @@ use Rattle.keler.proofs.SetLines.{type_line_lem, rule_line_lem, row_line_lem}
 abbrev pub Fits : List ℕ → Type 0
 Fits t = (6 < length t) × (length t ≤ 80)
 
-by_row : (p : ℕ) (ns : List ℕ) → 6 ≤ length (shape_at p).forms → holds_all (shape_at p).forms ns ≡ true → Fits (written (shape_at p) ns)
+by_row : (p : RowName) (ns : List ℕ) → 6 ≤ length (row_of p).forms → holds_all (row_of p).forms ns ≡ true → Fits (written (row_of p) ns)
 by_row p ns h e = (omega (arith, right_long p ns e), right_fits p ns e)
 
 -- forms one after the other
@@ -52,11 +53,11 @@ joined (φ ∷ φs) ψs (n ∷ ns) ms e f =
 
 module _ (csd day : ℕ) (c : within 1 8 csd ≡ true) (d : is_day day ≡ true) where
   row_fits_lem : (n : ℕ) → n < 32 → Fits (row_line n csd day)
-  unfolding row_line shapes keler_rows holds_all every
+  unfolding row_line row_of keler_rows holds_all every
   row_fits_lem n h =
       let φs = type_form ∷ object_form ∷ sequence_form ∷ ten_values in
       let e = get_or keler_rows n [] in
-      by_row 5 (csd ∷ day ∷ e) (omega arith) (rw (c, d) (every_entry (holds_all φs) keler_rows n [] refl h))
+      by_row M (csd ∷ day ∷ e) (omega arith) (rw (c, d) (every_entry (holds_all φs) keler_rows n [] refl h))
 
   module _ (first last : ℕ) (f : is_day first ≡ true) (l : is_day last ≡ true) where
     -- an entry of a table between the csd and day and the two days
@@ -66,18 +67,18 @@ module _ (csd day : ℕ) (c : within 1 8 csd ≡ true) (d : is_day day ≡ true)
     dated φs e h = rw (c, d) (joined φs (day_form ∷ day_form ∷ []) e (first ∷ last ∷ []) h (rw (f, l)))
 
     type_fits_lem : (n : ℕ) → n < 10 → Fits (type_line n csd day first last)
-    unfolding type_line shapes keler_types holds_all every
+    unfolding type_line row_of keler_types holds_all every
     type_fits_lem n h =
         let φs = type_form ∷ object_form ∷ processing_form ∷ [] in
         let e = get_or keler_types n [] in
-        by_row 0 (csd ∷ day ∷ (e ++ (first ∷ last ∷ []))) (omega arith) (dated φs e (every_entry (holds_all φs) keler_types n [] refl h))
+        by_row T (csd ∷ day ∷ (e ++ (first ∷ last ∷ []))) (omega arith) (dated φs e (every_entry (holds_all φs) keler_types n [] refl h))
 
     rule_fits_lem : (n : ℕ) → n < 13 → Fits (rule_line n csd day first last)
-    unfolding rule_line shapes keler_rules holds_all every
+    unfolding rule_line row_of keler_rules holds_all every
     rule_fits_lem n h =
         let φs = type_form ∷ object_form ∷ sequence_form ∷ sign_form ∷ criteria_form ∷ [] in
         let e = get_or keler_rules n [] in
-        by_row 2 (csd ∷ day ∷ (e ++ (first ∷ last ∷ []))) (omega arith) (dated φs e (every_entry (holds_all φs) keler_rules n [] refl h))
+        by_row R (csd ∷ day ∷ (e ++ (first ∷ last ∷ []))) (omega arith) (dated φs e (every_entry (holds_all φs) keler_rules n [] refl h))
 
     -- a line of a right number, csd and dates
     pub sized : (n : ℕ) → n < 55 → Fits (get_or (keler_lines csd day first last) n [])

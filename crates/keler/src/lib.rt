@@ -3,65 +3,83 @@
 
 mod set;
 
-ghost use Rattle.std.specs.Prelude.{◌≡◌, ◌&&◌};
-ghost use Rattle.meaning.specs.Forms.{is_day};
+ghost use Rattle.std.specs.Prelude.{◌≡◌, ◌≤◌, length};
+ghost use Rattle.meaning.specs.Fields.{within};
 ghost use Rattle.meaning.specs.Keler.{keler_refusal};
-ghost use Rattle.keler.specs.Step.{admitted, Ready, Puts, Steps};
+ghost use Rattle.keler.specs.Step.{admitted, Puts, Steps};
 
-use basics::{and, pick_size, within};
 use days::is_day;
+use meaning::Refusal;
 use set::set_line;
-use writing::Written;
+use writing::{SPACE, Written};
 
-// Three right dates, beside another test.
-fn are_days(test: bool, day: u32, first: u32, last: u32) -> bool
-    ensures { result ≡ (test && is_day day && is_day first && is_day last) }
-{
-    and(and(and(test, is_day(day)), is_day(first)), is_day(last))
+// The day of a line, and the first and last day of the set's types and rules.
+#[derive(Clone, Copy, Debug, PartialEq, Eq)]
+pub struct Dates {
+    pub day: u32,
+    pub first: u32,
+    pub last: u32,
 }
 
-// A right number, csd and dates, first not after last, and 80 or more bytes.
-fn is_admitted(number: u32, csd: u32, day: u32, first: u32, last: u32, space: usize) -> bool
-    ensures { result ≡ admitted number csd day first last space }
+// The set has 55 lines.
+fn is_number(number: u32) -> bool
+    ensures { result ≡ within 1 55 number }
 {
-    let named = and(within(1, 55, number), within(1, 8, csd));
-    let dated = are_days(named, day, first, last);
-    and(and(dated, first <= last), 80 <= space)
+    (1..=55).contains(&number)
 }
 
-// 5 for anything wrong; 6 for a first day not later than the day; 0 for neither.
-fn refusal(number: u32, csd: u32, day: u32, first: u32, last: u32, space: usize) -> usize
-    ensures { result ≡ keler_refusal number csd day first last space }
+fn is_csd(csd: u32) -> bool
+    ensures { result ≡ within 1 8 csd }
 {
-    let right = is_admitted(number, csd, day, first, last, space);
-    pick_size(!right, 5, pick_size(first <= day, 6, 0))
+    (1..=8).contains(&csd)
+}
+
+// A right number, csd and dates, first not after last, and 80 or more bytes. All tests are made: `&&` would part the
+// proof at each.
+fn is_admitted(number: u32, csd: u32, dates: Dates, space: usize) -> bool
+    ensures { result ≡ admitted number csd dates.day dates.first dates.last space }
+{
+    is_number(number)
+        & is_csd(csd)
+        & is_day(dates.day)
+        & is_day(dates.first)
+        & is_day(dates.last)
+        & (dates.first <= dates.last)
+        & (SPACE <= space)
+}
+
+// Anything wrong comes before a first day not later than the day.
+fn refusal(number: u32, csd: u32, dates: Dates, space: usize) -> Option<Refusal>
+    ensures { result ≡ keler_refusal number csd dates.day dates.first dates.last space }
+{
+    if !is_admitted(number, csd, dates, space) {
+        return Some(Refusal::BadField);
+    }
+    if dates.first <= dates.day {
+        return Some(Refusal::TooEarly);
+    }
+    None
 }
 
 // Puts a line in front of the bytes; those after it stay. Returns its length.
-fn put(w: Written, out: &mut [u8]) -> usize
-    requires { Ready w out.old }
-    ensures { Puts w out.old result out.new }
+fn put(line: &Written, out: &mut [u8]) -> usize
+    requires { length line.now ≤ length out.old }
+    ensures { Puts line.now out.old result out.new }
 {
-    let n = w.len;
-    let bytes = w.bytes;
-    let mut i = 0;
-    while i < n {
-        out[i] = bytes[i];
-        i += 1;
-    }
+    let bytes = line.as_slice();
+    let n = bytes.len();
+    out[..n].copy_from_slice(bytes);
     n
 }
 
-// Writes line 1 to 55 of the set for a csd, a day, a first and a last day, and returns its length; or returns 5 or 6
-// and writes nothing.
-pub fn keler_line(number: u32, csd: u32, day: u32, first: u32, last: u32, out: &mut [u8]) -> usize
-    ensures { Steps number csd day first last out.old result out.new }
+// Writes line 1 to 55 of the set for a csd and dates, and returns its length; or refuses and writes nothing.
+pub fn keler_line(number: u32, csd: u32, dates: Dates, out: &mut [u8]) -> Result<usize, Refusal>
+    ensures { Steps number csd dates.day dates.first dates.last out.old result out.new }
 {
-    let refused = refusal(number, csd, day, first, last, out.len());
-    if refused != 0 {
-        return refused;
+    if let Some(refusal) = refusal(number, csd, dates, out.len()) {
+        return Err(refusal);
     }
     let n = (number - 1) as usize;
-    let w = set_line(n, csd, day, first, last);
-    put(w, out)
+    let line = set_line(n, csd, dates);
+    Ok(put(&line, out))
 }

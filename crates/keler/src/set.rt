@@ -1,16 +1,15 @@
 // The tables of the KELER set, as document 01 gives them, and the lines that they make.
 ghost use Rattle.std.specs.Prelude.{◌<◌, ◌≡◌, [], get_or};
-ghost use Rattle.meaning.specs.Keler.{keler_types, keler_rules, keler_lines};
+ghost use Rattle.meaning.specs.Keler.{keler_lines};
 ghost use Rattle.writing.specs.Written.{written_as};
-ghost use Rattle.keler.specs.Tables.{row_number};
 ghost use Rattle.keler.specs.Lines.{type_line, rule_line, row_line};
 
-use basics::wide;
-use shapes::{SHAPE_M, SHAPE_R, SHAPE_T};
-use writing::{Written, blank, write_line};
+use crate::Dates;
+use shapes::Shape;
+use writing::{Written, write_line};
 
 // Type, object, processing.
-const KELER_TYPES: [[u8; 3]; 10] = [
+static KELER_TYPES: [[u32; 3]; 10] = [
     [1, 1, 1],
     [1, 2, 1],
     [2, 1, 1],
@@ -29,7 +28,7 @@ const P: u32 = 1;
 const N: u32 = 2;
 
 // Type, object, sequence, sign, criteria.
-const KELER_RULES: [[u32; 5]; 13] = [
+static KELER_RULES: [[u32; 5]; 13] = [
     [1, 1, 1, P, 64],
     [1, 1, 2, N, 72],
     [1, 2, 1, P, 64],
@@ -53,7 +52,7 @@ const CORP: u32 = 1129271888;
 
 // Type, object, sequence; movement, transaction; the codes of party, account and security. The other five values are
 // empty in every row.
-const KELER_ROWS: [[u32; 8]; 32] = [
+static KELER_ROWS: [[u32; 8]; 32] = [
     [1, 1, 1, 0, 0, 101, 0, 0],
     [1, 1, 1, 0, 0, 102, 0, 0],
     [1, 1, 1, 0, 0, 103, 0, 0],
@@ -88,108 +87,90 @@ const KELER_ROWS: [[u32; 8]; 32] = [
     [5, 2, 1, 0, 0, 0, 404, 0],
 ];
 
-// A number of a type's entry.
-fn type_number(n: usize, k: usize) -> u32
-    requires { (n < 10) × (k < 3) }
-    ensures { result ≡ get_or (get_or keler_types n []) k 0 }
-{
-    wide(KELER_TYPES[n][k])
-}
-
-// A number of a rule's entry.
-fn rule_number(n: usize, k: usize) -> u32
-    requires { (n < 13) × (k < 5) }
-    ensures { result ≡ get_or (get_or keler_rules n []) k 0 }
-{
-    KELER_RULES[n][k]
-}
-
-// A number of a row's entry.
-fn row_number(n: usize, k: usize) -> u32
-    requires { (n < 32) × (k < 8) }
-    ensures { result ≡ row_number n k }
-{
-    KELER_ROWS[n][k]
-}
-
 // ---- the lines
 
-fn type_line(n: usize, csd: u32, day: u32, first: u32, last: u32) -> Written
+fn type_line(n: usize, csd: u32, dates: Dates) -> Written
     requires { n < 10 }
-    ensures { result ≡ written_as (type_line n csd day first last) }
+    ensures { result ≡ written_as (type_line n csd dates.day dates.first dates.last) }
 {
-    let number = type_number(n, 0);
-    let object = type_number(n, 1);
-    let processing = type_number(n, 2);
-    write_line(
-        SHAPE_T,
-        &[csd, day, number, object, processing, first, last],
-    )
+    let [number, object, processing] = KELER_TYPES[n];
+    let numbers = [
+        csd,
+        dates.day,
+        number,
+        object,
+        processing,
+        dates.first,
+        dates.last,
+    ];
+    write_line(Shape::T, &numbers)
 }
 
-fn rule_line(n: usize, csd: u32, day: u32, first: u32, last: u32) -> Written
+fn rule_line(n: usize, csd: u32, dates: Dates) -> Written
     requires { n < 13 }
-    ensures { result ≡ written_as (rule_line n csd day first last) }
+    ensures { result ≡ written_as (rule_line n csd dates.day dates.first dates.last) }
 {
-    let number = rule_number(n, 0);
-    let object = rule_number(n, 1);
-    let sequence = rule_number(n, 2);
-    let sign = rule_number(n, 3);
-    let criteria = rule_number(n, 4);
-    write_line(
-        SHAPE_R,
-        &[
-            csd, day, number, object, sequence, sign, criteria, first, last,
-        ],
-    )
+    let [number, object, sequence, sign, criteria] = KELER_RULES[n];
+    let numbers = [
+        csd,
+        dates.day,
+        number,
+        object,
+        sequence,
+        sign,
+        criteria,
+        dates.first,
+        dates.last,
+    ];
+    write_line(Shape::R, &numbers)
 }
 
 fn row_line(n: usize, csd: u32, day: u32) -> Written
     requires { n < 32 }
     ensures { result ≡ written_as (row_line n csd day) }
 {
-    let number = row_number(n, 0);
-    let object = row_number(n, 1);
-    let sequence = row_number(n, 2);
-    let movement = row_number(n, 3);
-    let transaction = row_number(n, 4);
-    let party = row_number(n, 5);
-    let account = row_number(n, 6);
-    let security = row_number(n, 7);
-    write_line(
-        SHAPE_M,
-        &[
-            csd,
-            day,
-            number,
-            object,
-            sequence,
-            0,
-            movement,
-            0,
-            transaction,
-            0,
-            0,
-            party,
-            account,
-            security,
-            0,
-        ],
-    )
+    let [
+        number,
+        object,
+        sequence,
+        movement,
+        transaction,
+        party,
+        account,
+        security,
+    ] = KELER_ROWS[n];
+    let numbers = [
+        csd,
+        day,
+        number,
+        object,
+        sequence,
+        0,
+        movement,
+        0,
+        transaction,
+        0,
+        0,
+        party,
+        account,
+        security,
+        0,
+    ];
+    write_line(Shape::M, &numbers)
 }
 
 // The line after n others: 10 T lines, 13 R lines, 32 M lines, and no bytes after these.
-pub fn set_line(n: usize, csd: u32, day: u32, first: u32, last: u32) -> Written
-    ensures { result ≡ written_as (get_or (keler_lines csd day first last) n []) }
+pub fn set_line(n: usize, csd: u32, dates: Dates) -> Written
+    ensures { result ≡ written_as (get_or (keler_lines csd dates.day dates.first dates.last) n []) }
 {
     if n < 10 {
-        return type_line(n, csd, day, first, last);
+        return type_line(n, csd, dates);
     }
     if n < 23 {
-        return rule_line(n - 10, csd, day, first, last);
+        return rule_line(n - 10, csd, dates);
     }
     if n < 55 {
-        return row_line(n - 23, csd, day);
+        return row_line(n - 23, csd, dates.day);
     }
-    blank()
+    Written::new()
 }

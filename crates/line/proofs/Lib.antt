@@ -1,8 +1,6 @@
-pub mod LineReturns
 pub mod Loops
 pub mod Capped
 pub mod CommandPadding
-pub mod Mosts
 pub mod ShapeRows
 pub mod FieldNumbers
 pub mod Readings

@@ -1,15 +1,13 @@
--- What a caller of `read_line` learns, from its contract alone. `asked` and `was_refused` are the two cases, by the
--- refusal.
+-- What a caller of `read_line` learns, from its contract alone. `asked` and `was_refused` are the two cases.
 use Prim.Native.Nat.{ℕ, ◌≤◌, ◌<◌}
-use mathlib.Core.Path.{◌≡◌, refl, ap, sym, ◌∙◌}
+use mathlib.Core.Path.{◌≡◌, refl, ap}
 use mathlib.Core.Bool.{Bool, true, false, cond, ◌&&◌}
 use mathlib.Core.List.{List, [], ◌∷◌}
-use mathlib.Core.Option.{Option, some, none}
+use Rattle.std.specs.Prelude.{Option, Some, None, Ok, Err}
 use native.Mathlib.Omega.{arith}
 use lib.ListN.{length, get_or}
 use Rattle.tables.specs.Count.{has}
 use Rattle.tables.specs.Padded.{padded}
-use Rattle.tables.proofs.Counts.{cases_eq}
 use Rattle.tables.proofs.Padding.{padded_at}
 use Rattle.meaning.specs.Fields.{well_made, fields}
 use Rattle.meaning.specs.Forms.{Letter, Shape, shapes, has_letter, has_length, first_shape}
@@ -19,6 +17,9 @@ use Rattle.meaning.proofs.Shapes.{Ranged}
 use Rattle.meaning.proofs.Ranges.{numbers_ranged}
 use Rattle.meaning.proofs.Names.{numbers_csd}
 use Rattle.meaning.specs.Forms.{letter_byte}
+use Rattle.meaning.specs.declared.Refusal.{Refusal}
+use Rattle.meaning.specs.declared.Refusal.TheVariants.{BadLine, NoLetter}
+use Rattle.meaning.specs.Refusals.{number_of}
 use Rattle.line.specs.Line.{line_of}
 use Rattle.line.specs.declared.reading.Line.{Line}
 use Rattle.line.proofs.CommandPadding.{command_padded}
@@ -26,8 +27,11 @@ use Rattle.line.proofs.CommandPadding.{command_padded}
 -- ---- refusals
 
 -- a refusal is 2 to 5
+abbrev Early : Refusal → Type 0
+Early r = (2 ≤ number_of r) × (number_of r ≤ 5)
+
 Known : Reading → Type 0
-Known (refused n) = (2 ≤ n) × (n ≤ 5)
+Known (refused r) = Early r
 Known (asks l ns) = Unit {0}
 
 known_cond : (t : Bool) (y z : Reading) → Known y → Known z → Known (cond t y z)
@@ -36,25 +40,25 @@ known_cond false y z k m = m
 
 known_numbers : (l : Letter) (ns : Option (List ℕ)) → Known (by_numbers l ns)
 unfolding Known by_numbers
-known_numbers l none = (omega arith, omega arith)
-known_numbers l (some ns) = tt
+known_numbers l None = (omega arith, omega arith)
+known_numbers l (Some ns) = tt
 
 known_shape : (o : Option Shape) (fs : List (List ℕ)) → Known (by_shape o fs)
 unfolding Known by_shape
-known_shape none fs = (omega arith, omega arith)
-known_shape (some s) fs = known_numbers s.letter (read_all s.forms fs)
+known_shape None fs = (omega arith, omega arith)
+known_shape (Some s) fs = known_numbers s.letter (read_all s.forms fs)
 
 known_fields : (fs : List (List ℕ)) → Known (by_fields fs)
 unfolding Known by_fields
 known_fields [] = (omega arith, omega arith)
 known_fields (f ∷ fs) =
     let o = first_shape (λ s. has_letter f s && has_length (length fs) s) shapes in
-    known_cond (has (has_letter f) shapes) (by_shape o fs) (refused 3) (known_shape o fs) (omega arith, omega arith)
+    known_cond (has (has_letter f) shapes) (by_shape o fs) (refused NoLetter) (known_shape o fs) (omega arith, omega arith)
 
 known : (line : List ℕ) → Known (numbers_read line)
 unfolding Known numbers_read
 known line =
-    known_cond (well_made line) (by_fields (fields line)) (refused 2) (known_fields (fields line)) (omega arith, omega arith)
+    known_cond (well_made line) (by_fields (fields line)) (refused BadLine) (known_fields (fields line)) (omega arith, omega arith)
 
 -- ---- a line that is read
 
@@ -89,38 +93,29 @@ asked_with line r l ns e b v =
       csd_high = omega (arith, same 0 (omega arith), csd.1);
     }
 
-by_reading : (line : List ℕ) (r : Line) (y : Reading) → numbers_read line ≡ y → Known y → r ≡ line_of y → r.refusal ≡ 0 → Asked line r
-unfolding Known line_of
-by_reading line r (refused n) e k q z = absurd (let m = ap (λ x. x.refusal) q in omega arith)
-by_reading line r (asks l ns) e k q z = asked_with line r l ns e (ap (λ x. x.letter) q) (ap (λ x. x.values) q)
+by_reading : (line : List ℕ) (r : Line) (y : Reading) → numbers_read line ≡ y → Ok r ≡ line_of y → Asked line r
+unfolding line_of
+by_reading line r (refused e) q z = cc
+by_reading line r (asks l ns) q z =
+    let same : r ≡ record { letter = letter_byte l; values = padded 16 ns } = cc in
+    asked_with line r l ns q (ap (λ x. x.letter) same) (ap (λ x. x.values) same)
 
-pub asked : (line : List ℕ) {r : Line} → r ≡ line_of (numbers_read line) → r.refusal ≡ 0 → Asked line r
-asked line {r} q z = by_reading line r (numbers_read line) refl (known line) q z
+pub asked : (line : List ℕ) {r : Line} → Ok r ≡ line_of (numbers_read line) → Asked line r
+asked line {r} q = by_reading line r (numbers_read line) refl q
 
 -- ---- a line that is refused
 
-pub record WasRefused (line : List ℕ) (r : Line) : Type 0 where
-  pub whole : numbers_read line ≡ refused r.refusal
-  pub low : 2 ≤ r.refusal
-  pub high : r.refusal ≤ 5
-  pub letter : r.letter ≡ 0
-  pub values : r.values ≡ padded 16 []
+pub record WasRefused (line : List ℕ) (e : Refusal) : Type 0 where
+  pub whole : numbers_read line ≡ refused e
+  pub low : 2 ≤ number_of e
+  pub high : number_of e ≤ 5
 
-refused_reading : (line : List ℕ) (r : Line) (y : Reading) → numbers_read line ≡ y → Known y → r ≡ line_of y → (r.refusal ≡ 0 → ⊥) → WasRefused line r
+refused_reading : (line : List ℕ) (e : Refusal) (y : Reading) → numbers_read line ≡ y → Known y → Err e ≡ line_of y → WasRefused line e
 unfolding Known line_of
-refused_reading line r (refused n) e k q z =
-    let m = ap (λ x. x.refusal) q in
-    record {
-      whole = e ∙ ap refused (sym m);
-      low = omega (arith, k.0);
-      high = omega (arith, k.1);
-      letter = ap (λ x. x.letter) q;
-      values = ap (λ x. x.values) q;
-    }
-refused_reading line r (asks l ns) e k q z = absurd (z (ap (λ x. x.refusal) q))
+refused_reading line e (refused r) q k z =
+    let same : e ≡ r = cc in
+    rw same (record { whole = q; low = k.0; high = k.1 })
+refused_reading line e (asks l ns) q k z = cc
 
-pub was_refused : (line : List ℕ) {r : Line} → r ≡ line_of (numbers_read line) → (r.refusal ≡ 0 → ⊥) → WasRefused line r
-was_refused line {r} q z = refused_reading line r (numbers_read line) refl (known line) q z
-
-pub refusal_few : (line : List ℕ) {r : Line} → r ≡ line_of (numbers_read line) → r.refusal ≤ 5
-refusal_few line {r} q = cases_eq r.refusal 0 (λ z. omega arith) (λ z. (was_refused line q z).high)
+pub was_refused : (line : List ℕ) {e : Refusal} → Err e ≡ line_of (numbers_read line) → WasRefused line e
+was_refused line {e} q = refused_reading line e (numbers_read line) refl (known line) q

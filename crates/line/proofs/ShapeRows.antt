@@ -1,37 +1,36 @@
 -- The rows of the table of shapes: the code finds the row that the meaning's `first_shape` gives, and whether any row
 -- has a letter.
-use Prim.Native.Nat.{ℕ, ◌+◌, ◌≤◌, ◌<◌}
+use Prim.Native.Nat.{ℕ, suc}
 use mathlib.Core.Path.{◌≡◌, refl, ap, sym, ◌∙◌}
-use mathlib.Core.Bool.{Bool, true, false, ◌&&◌, and-true}
+use mathlib.Core.Bool.{Bool, true, false, ◌&&◌, ◌||◌}
 use mathlib.Core.List.{List, [], ◌∷◌, map}
-use mathlib.Core.Option.{some, none}
-use native.Mathlib.Numerals.{add-one}
-use native.Mathlib.Omega.{arith}
 use lib.Dec.{eqb}
-use lib.ListN.{length, get_or, drop, drop_of_length-le, get_or-eq_default}
-use lib.Seq.{drop-cons}
-use borrow.Author.Tests.{eqb-true, eq-eqb, ne_eqb}
+use lib.ListN.{length, length-map}
+use borrow.Author.Tests.{eqb-true}
+use Rattle.std.specs.Option.{option_map}
+use Rattle.std.specs.List.{list_any, find}
 use Rattle.tables.specs.Count.{has, every}
 use Rattle.tables.proofs.Counts.{cases, both}
 use Rattle.tables.proofs.Lists.{has_cons}
-use Rattle.tables.proofs.Entries.{map_entry}
 use Rattle.meaning.specs.Text.{same}
-use Rattle.meaning.specs.Forms.{letter_text, Shape, shape_q, shapes, has_letter, first_shape}
-use Rattle.meaning.specs.Forms.{letter_byte}
-use Rattle.shapes.specs.Table.{rows, shape_at, forms_at, Counted}
-use Rattle.shapes.proofs.TableRule.{one_byte, all_one_byte, letter_text_lem}
-use Rattle.line.specs.Table.{at_row, as_shape, first_row}
-use Rattle.line.proofs.Loops.{same_length}
+use Rattle.meaning.specs.Forms.{letter_text, Shape, shapes, has_letter, first_shape}
+use Rattle.shapes.specs.declared.Shape.{Shape as RowName}
+use Rattle.shapes.specs.declared.Field.{Field}
+use Rattle.shapes.specs.Table.{field_of, forms_of, row_of}
+use Rattle.shapes.proofs.TableRule.{all_rows, all_shapes, one_byte, all_one_byte}
+use Rattle.line.specs.Line.{as_shape}
 
 -- ---- a letter is one byte
 
-one_byte_lem : (c : ℕ) (f : List ℕ) → length f ≡ 1 → same (c ∷ []) f ≡ eqb c (get_or f 0 0)
-one_byte_lem c [] h = absurd (omega arith)
-one_byte_lem c (x ∷ []) h = and-true (eqb c x)
-one_byte_lem c (x ∷ y ∷ f) h = absurd (omega arith)
-
-row_letter : (c n : ℕ) → n < rows → has_letter (c ∷ []) (shape_at n) ≡ eqb c (letter_byte (shape_at n).letter)
-row_letter c n h = one_byte_lem c (letter_text (shape_at n).letter) (ap length (letter_text_lem n))
+same_length : (a b : List ℕ) → (length a ≡ length b → ⊥) → false ≡ same a b
+same_length [] [] h = absurd (h refl)
+same_length [] (d ∷ b) h = refl
+same_length (c ∷ a) [] h = refl
+same_length (c ∷ a) (d ∷ b) h = go (eqb c d) (same_length a b (λ e. h (ap suc e)))
+  where
+    go : (t : Bool) → false ≡ same a b → false ≡ (t && same a b)
+    go true e = e
+    go false e = refl
 
 none_long : (f : List ℕ) (l : List Shape) → every one_byte l ≡ true → (length f ≡ 1 → ⊥) → has (has_letter f) l ≡ false
 unfolding every has
@@ -45,86 +44,27 @@ none_long f (s ∷ l) e h =
 pub no_row : (f : List ℕ) → (length f ≡ 1 → ⊥) → has (has_letter f) shapes ≡ false
 no_row f h = none_long f shapes all_one_byte h
 
--- ---- the first row that passes a test
+-- ---- the rows that pass a test
 
-pub first_at : (p : Shape → Bool) (l : List Shape) → first_shape p l ≡ get_or (map some l) (first_row p l) none
-unfolding first_shape first_row
-first_at p [] = refl
-first_at p (s ∷ l) = cases (p s) (λ e. rw e) (λ e. rw e (first_at p l))
+any_of : (p : Shape → Bool) (l : List RowName) → has p (map row_of l) ≡ list_any (λ s. p (row_of s)) l
+unfolding has
+any_of p [] = refl
+any_of p (s ∷ l) = has_cons p (row_of s) (map row_of l) ∙ ap (λ b. p (row_of s) || b) (any_of p l)
 
-has_first : (p : Shape → Bool) (l : List Shape) → first_row p l < length l → has p l ≡ true
-unfolding first_row
-has_first p [] h = absurd (omega arith)
-has_first p (s ∷ l) h =
-    has_cons p s l ∙ cases (p s) (λ e. rw e) (λ e. rw e (has_first p l (let g = rw e at h in omega arith)))
+pub any_row : (p : Shape → Bool) → list_any (λ s. p (row_of s)) all_rows ≡ has p shapes
+any_row p = sym (any_of p all_rows) ∙ ap (has p) all_shapes
 
-has_none : (p : Shape → Bool) (l : List Shape) → length l ≤ first_row p l → has p l ≡ false
-unfolding first_row has
-has_none p [] h = refl
-has_none p (s ∷ l) h =
-    has_cons p s l
-    ∙ cases (p s) (λ e. absurd (let g = rw e at h in omega arith)) (λ e. rw e (has_none p l (let g = rw e at h in omega arith)))
+first_of_lem : (p : Shape → Bool) (l : List RowName) → option_map row_of (find (λ s. p (row_of s)) l) ≡ first_shape p (map row_of l)
+unfolding first_shape
+first_of_lem p [] = refl
+first_of_lem p (s ∷ l) = cases (p (row_of s)) (λ e. rw e) (λ e. rw e (first_of_lem p l))
 
--- before row n: none was found so far
-pub record SoughtTo (p : Shape → Bool) (n : ℕ) : Type 0 where
-  pub left : n + first_row p (drop n shapes) ≡ first_row p shapes
+pub first_row : (p : Shape → Bool) → option_map row_of (find (λ s. p (row_of s)) all_rows) ≡ first_shape p shapes
+first_row p = first_of_lem p all_rows ∙ ap (first_shape p) all_shapes
 
-pub sought_first : (p : Shape → Bool) → SoughtTo p 0
-sought_first p = record { left = omega arith }
+-- ---- a row with that letter and that many fields
 
-module _ {p : Shape → Bool} {n : ℕ} (r : SoughtTo p n) where
-  pub sought_next : n < rows → p (shape_at n) ≡ false → SoughtTo p (n + 1)
-  unfolding shapes first_row
-  sought_next h e =
-      let s : first_row p (drop n shapes) ≡ first_row p (drop (n + 1) shapes) + 1 = rw (drop-cons shapes n shape_q h, e, add-one n) (sym (add-one _)) in
-      record { left = omega (arith, r.left) }
-
-  pub sought_here : n < rows → p (shape_at n) ≡ true → n ≡ first_row p shapes
-  unfolding shapes first_row
-  sought_here h e =
-      let s : first_row p (drop n shapes) ≡ 0 = rw (drop-cons shapes n shape_q h, e) in
-      omega (arith, r.left)
-
-  pub sought_end : rows ≤ n → n ≡ first_row p shapes
-  unfolding shapes first_row
-  sought_end h = let s : first_row p (drop n shapes) ≡ 0 = rw (drop_of_length-le shapes h) in omega (arith, r.left)
-
--- ---- the loops' turns
-
-module _ (c : ℕ) {n x : ℕ} (h : n < rows) (a : x ≡ letter_byte (shape_at n).letter) where
-  module _ (r : SoughtTo (has_letter (c ∷ [])) n) where
-    pub letter_here : c ≡ x → true ≡ has (has_letter (c ∷ [])) shapes
-    unfolding shapes
-    letter_here e =
-        let f = sought_here r h (row_letter c n h ∙ eq-eqb _ _ (e ∙ a)) in
-        sym (has_first (has_letter (c ∷ [])) shapes (omega arith))
-
-    pub letter_next : (c ≡ x → ⊥) → SoughtTo (has_letter (c ∷ [])) (n + 1)
-    letter_next e = sought_next r h (row_letter c n h ∙ ne_eqb _ _ (λ z. e (z ∙ sym a)))
-
-  module _ (k : ℕ) {m : ℕ} {t : Bool} (r : SoughtTo (as_shape c k) n) (b : Counted n m) (e : t ≡ (eqb c x && eqb k m)) where
-    said : t ≡ as_shape c k (shape_at n)
-    unfolding forms_at
-    said = rw (row_letter c n h, ← a, ← b.count) e
-
-    pub shape_here : t ≡ true → n ≡ first_row (as_shape c k) shapes
-    shape_here f = sought_here r h (sym said ∙ f)
-
-    pub shape_next : t ≡ false → SoughtTo (as_shape c k) (n + 1)
-    shape_next f = sought_next r h (sym said ∙ f)
-
-pub letter_none : (c : ℕ) {n : ℕ} → SoughtTo (has_letter (c ∷ [])) n → rows ≤ n → false ≡ has (has_letter (c ∷ [])) shapes
-unfolding shapes
-letter_none c {n} r h =
-    let f = sought_end r h in
-    sym (has_none (has_letter (c ∷ [])) shapes (omega arith))
-
--- ---- a row by its number
-
-pub row_some : (n : ℕ) → n < rows → at_row n ≡ some (shape_at n)
-unfolding shapes
-row_some n h = map_entry some shapes n shape_q none h
-
-pub row_none : (n : ℕ) → rows ≤ n → at_row n ≡ none
-unfolding shapes
-row_none n h = get_or-eq_default (map some shapes) none h
+module _ (c k : ℕ) (s : RowName) {t : Bool} (fs : List Field) (a : t ≡ has_letter (c ∷ []) (row_of s)) (b : map field_of fs ≡ forms_of s) where
+  pub same_count : t ≡ true → eqb k (length fs) ≡ as_shape c k (row_of s)
+  unfolding forms_of
+  same_count e = let n : length fs ≡ length (row_of s).forms = sym (length-map fs field_of) ∙ ap length b in rw (← a, e, ← n)

@@ -1,3 +1,1 @@
-pub mod Values
-pub mod Table
 pub mod Line

@@ -2,19 +2,19 @@
 // their printed forms. tools/line_vectors.py writes what it reads and must write.
 #![tactic(auto)]
 
-use basics::pick_byte;
 use input::read_full;
-use meaning::{Answer, Deciding, Verdict};
+use meaning::{Answer, Deciding, Refusal, Verdict};
 use std::io;
 
 fn show(rt: &impl Print, line: &[u8]) -> io::Result<()> {
-    let r = line::read_line(line);
-    let n = r.refusal;
-    let shown = pick_byte(n == 0, r.letter, b'0' + n);
+    let shown = match line::read_line(line) {
+        Ok(line) => line.letter,
+        Err(refusal) => b'0' + u8::from(refusal),
+    };
     rt.write_all(&[shown, b'\n'])
 }
 
-// The lines of a text, one after the other.
+// The lines of a text, one after the other. The index stays: it is what `next_line`, which is tried here, takes.
 fn show_lines(rt: &impl Print, text: &[u8]) -> io::Result<()> {
     let mut at: usize = 0;
     while at < text.len() {
@@ -27,10 +27,7 @@ fn show_lines(rt: &impl Print, text: &[u8]) -> io::Result<()> {
 }
 
 fn show_answer(rt: &impl Print, answer: Answer) -> io::Result<()> {
-    let p = text::print(answer);
-    let n = p.len;
-    let bytes = p.bytes;
-    rt.write_all(&bytes[..n])?;
+    rt.write_all(text::print(answer).as_slice())?;
     rt.write_all(b"\n")
 }
 
@@ -52,8 +49,8 @@ fn main(rt: HostRuntime) -> io::Result<()> {
         sequence: 0,
     };
     show_answer(&rt, Answer::Taken)?;
-    show_answer(&rt, Answer::Refused(8))?;
-    show_answer(&rt, Answer::Refused(10))?;
+    show_answer(&rt, Answer::Refused(Refusal::AlreadyHeld))?;
+    show_answer(&rt, Answer::Refused(Refusal::QuotaFull))?;
     let held = Deciding {
         number: 9,
         sequence: 5,

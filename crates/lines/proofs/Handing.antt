@@ -1,29 +1,27 @@
 -- What each return of the desk's functions shows.
 use Prim.Native.Nat.{ℕ, zero, suc, ◌+◌, ◌-◌, ◌*◌, ◌/◌, ◌≤◌, min}
 use mathlib.Core.Path.{◌≡◌, refl, sym, ap, ◌∙◌}
-use mathlib.Core.Bool.{Bool, true, false, not, false≢true}
+use mathlib.Core.Bool.{Bool, true, false, not}
 use mathlib.Core.List.{List, [], ◌∷◌, ◌++◌, append-nil}
 use native.Mathlib.Omega.{arith}
 use lib.Dec.{leb}
 use lib.ListN.{length, take, drop, length-take}
 use lib.Seq.{take_all, length-take-le}
 use borrow.Author.Tests.{leb-true, leb-false, le-leb, lt-leb, not-true, not-false}
+use Rattle.std.specs.Prelude.{Some, None}
+use Rattle.std.proofs.lemmas.List.{take_min}
 use Rattle.tables.proofs.Counts.{cases}
 use Rattle.meaning.specs.Desk.{output}
-use Rattle.book.specs.Sound.{sound}
 use Rattle.answering.specs.Taking.{answer_by}
 use Rattle.meaning.specs.declared.Sent.TheVariants.{Alone}
 use Rattle.lines.specs.Ended.{ended, begun, last_line, short}
 use Rattle.lines.specs.Keeping.{part, Keeps}
 use Rattle.lines.specs.Many.{answers_by, book_by, bytes_in, laid, written_as, one, standing, Turn, AnsweredBy}
-use Rattle.lines.specs.Pieces.{at_first, room_for, Steps}
+use Rattle.lines.specs.Pieces.{room_for, Steps}
 use Rattle.lines.specs.declared.Desk.{Desk}
 use Rattle.lines.specs.declared.Progress.{Progress}
 use Rattle.lines.proofs.BegunLine.{begun_behind}
 use Rattle.lines.proofs.Steps.{laid_none, output_more, Came, came}
-
-pub at_first_lem : (b : List ℕ) {t : Bool} → t ≡ sound b → record { held = 0; sound = t } ≡ at_first b
-at_first_lem b e = ap (λ z. record { held = 0; sound = z }) e
 
 -- ---- how many bytes stand
 
@@ -38,10 +36,7 @@ module _ (k : ℕ) {n : ℕ} (text : List ℕ) (m : n ≡ min k (length text)) w
   stand_size = sym (length-take-le n text (omega arith))
 
   same_bytes : take n text ≡ take k text
-  same_bytes =
-      cases (leb k (length text))
-      (λ e. let h = leb-true k (length text) e in let i : n ≡ k = omega arith in rw i)
-      (λ e. let h = leb-false k (length text) e in take_all n text (omega arith) ∙ sym (take_all k text (omega arith)))
+  same_bytes = rw (m, take_min)
 
   room_said : (o : List ℕ) {q : Bool} → q ≡ leb (33 * n) (length o) → q ≡ room_for (take k text) o
   room_said o e = e ∙ ap (λ i. leb (33 * i) (length o)) (m ∙ sym (length-take k text))
@@ -50,12 +45,11 @@ module _ (k : ℕ) {n : ℕ} (text : List ℕ) (m : n ≡ min k (length text)) w
 
 module _ {d : Desk} {b text o : List ℕ} {lines : List (List ℕ)} {kept : List ℕ} (k : ℕ) {n : ℕ} {q : Bool} where
   pub left : n ≡ min k (length text) → q ≡ leb (33 * n) (length o) → not q ≡ true
-      → Steps (take k text) lines kept d b text o (record { desk = d; written = 0; room = false }) b text o
+      → Steps (take k text) lines kept d b text o None b text o
   left m e f = record {
     room = sym (not-true q f) ∙ room_said k text m o e;
-    takes = λ z. absurd (false≢true z);
-    leaves = λ z. record { book = refl; out = refl; written = refl; text = refl; desk = refl };
-    few = omega arith;
+    takes = tt;
+    leaves = record { book = refl; out = refl; text = refl };
   }
 
 -- ---- a piece: where there is room, every ended line is answered
@@ -104,7 +98,7 @@ module _ {d : Desk} {b text o b' text' o' : List ℕ} (k : ℕ) {n h : ℕ} {q :
   pub piece : n ≡ min k (length text) → q ≡ leb (33 * n) (length o) → not q ≡ false
       → AnsweredBy d.sound b (take n text) o p b' o'
       → length o' ≡ length o → Keeps text p.read n h text'
-      → Steps (take k text) (ended (take k text)) (short (begun (take k text))) d b text o (record { desk = record { held = h; sound = d.sound }; written = p.written; room = true }) b' text' o'
+      → Steps (take k text) (ended (take k text)) (short (begun (take k text))) d b text o (Some (record { desk = record { held = h; sound = d.sound }; written = p.written })) b' text' o'
   piece m e f a z g =
       let t = take n text in
       let y = not-false q f in
@@ -113,22 +107,18 @@ module _ {d : Desk} {b text o b' text' o' : List ℕ} (k : ℕ) {n h : ℕ} {q :
       rw (← same_bytes k text m)
       (record {
         room = sym y ∙ room_said k text m o e ∙ ap (λ j. room_for j o) (sym (same_bytes k text m));
-        takes = λ w. record {
+        takes = record {
           book = i.book;
           out = i.out;
           written = i.written;
           text = g.whole ∙ ap (λ j. laid text 0 (short j)) u;
           desk = ap (λ j. record { held = j; sound = d.sound }) (g.kept ∙ ap (λ j. length (short j)) u);
+          few = a.few;
         };
-        leaves = λ w. absurd (false≢true (sym w));
-        few = a.few;
+        leaves = tt;
       })
 
 -- ---- the end of input
-
-pub room_one : (n : ℕ) (o : List ℕ) {q : Bool} → q ≡ leb (33 * n) (length o) → not q ≡ false → (n ≡ 0 → ⊥)
-    → 33 ≤ length o
-room_one n o {q} e f g = omega (arith, leb-true (33 * n) (length o) (sym e ∙ not-false q f))
 
 last_some : (t : List ℕ) → (length t ≡ 0 → ⊥) → last_line t ≡ t ∷ []
 unfolding last_line
@@ -137,19 +127,18 @@ last_some (c ∷ cs) f = refl
 
 module _ {d : Desk} {b text o : List ℕ} (k : ℕ) {n : ℕ} {q : Bool} (m : n ≡ min k (length text)) (e : q ≡ leb (33 * n) (length o)) (f : not q ≡ false) where
   pub no_line : n ≡ 0
-      → Steps (take k text) (last_line (take k text)) [] d b text o (record { desk = record { held = 0; sound = d.sound }; written = 0; room = true }) b text o
+      → Steps (take k text) (last_line (take k text)) [] d b text o (Some (record { desk = record { held = 0; sound = d.sound }; written = 0 })) b text o
   unfolding last_line book_by answers_by output
   no_line g =
       let t : take k text ≡ [] = sym (same_bytes k text m) ∙ ap (λ i. take i text) g in
       record {
         room = sym (not-false q f) ∙ room_said k text m o e;
-        takes = λ w. rw t (record { book = refl; out = laid_none o 0; written = refl; text = laid_none text 0; desk = refl });
-        leaves = λ w. absurd (false≢true (sym w));
-        few = omega arith;
+        takes = rw t (record { book = refl; out = laid_none o 0; written = refl; text = laid_none text 0; desk = refl; few = omega arith });
+        leaves = tt;
       }
 
   pub last_line_lem : {b' o' : List ℕ} {r : ℕ} → (n ≡ 0 → ⊥) → Turn d.sound b (take n text) o 0 r b' o'
-      → Steps (take k text) (last_line (take k text)) [] d b text o (record { desk = record { held = 0; sound = d.sound }; written = r; room = true }) b' text o'
+      → Steps (take k text) (last_line (take k text)) [] d b text o (Some (record { desk = record { held = 0; sound = d.sound }; written = r })) b' text o'
   unfolding one book_by answers_by output
   last_line_lem {b'} {o'} {r} g u =
       let t = take n text in
@@ -159,13 +148,13 @@ module _ {d : Desk} {b text o : List ℕ} (k : ℕ) {n : ℕ} {q : Bool} (m : n 
       rw (← same_bytes k text m, last_some t (λ z. g (stand_size k text m ∙ z)))
       (record {
         room = sym (not-false q f) ∙ room_said k text m o e ∙ ap (λ j. room_for j o) (sym (same_bytes k text m));
-        takes = λ x. record {
+        takes = record {
           book = sym (ap (λ j. j.book) v);
           out = sym (ap (λ j. j.out) v) ∙ ap (laid o 0) (sym w);
           written = sym (ap (λ j. j.written) v) ∙ omega (arith, ap length w);
           text = laid_none text 0;
           desk = refl;
+          few = u.few;
         };
-        leaves = λ x. absurd (false≢true (sym x));
-        few = u.few;
+        leaves = tt;
       })

@@ -7,7 +7,9 @@ use native.Mathlib.Omega.{arith}
 use lib.Dec.{leb}
 use lib.ListN.{length, set, take, drop, length-set, length-drop, length-append}
 use lib.Seq.{paste, paste-suc, length-take-le, take-length, take-append_seam, get_or-append_seam}
-use borrow.Author.Tests.{leb-true, lt-ltb}
+use borrow.Author.Tests.{lt-ltb}
+use borrow.Rule.Slice.PartMut.{put_mid}
+use Rattle.std.proofs.lemmas.List.Edits.{length-paste}
 use Rattle.meaning.specs.Text.{place}
 use Rattle.meaning.specs.Printing.{printed}
 use Rattle.meaning.specs.declared.Answer.{Answer}
@@ -15,21 +17,17 @@ use Rattle.meaning.specs.declared.Sent.TheVariants.{Alone}
 use Rattle.text.specs.Parts.{span_from, Splits}
 use Rattle.text.specs.Printed.{Prints}
 use Rattle.text.specs.declared.lines.Span.{Span}
-use Rattle.writing.specs.declared.bytes.Written.{Written}
 use Rattle.answering.specs.Taking.{Answers}
 use Rattle.lines.specs.Ended.{ended}
 use Rattle.lines.specs.Many.{laid, written_as, Standing, room, one, many, standing, Put, Turn, AnsweredBy}
+use Rattle.lines.proofs.Laying.{laid_part}
 use Rattle.lines.proofs.Ending.{ended_next, ended_none}
 
 -- ---- an answer written
 
--- the bytes of a printed answer are as many as its length says
-pub printed_length : {a : Answer} {p : Written} → Prints a p → p.len ≡ length (take p.len p.bytes)
-printed_length {a} {p} h = sym (length-take-le p.len p.bytes (omega (arith, h.few, h.size)))
-
-pub printed_fits : {a : Answer} {p : Written} (n m : ℕ) → Prints a p → n + 33 ≤ m
-    → n + length (take p.len p.bytes) ≤ m
-printed_fits n m i h = omega (arith, printed_length i, i.few)
+laid_is : (o t : List ℕ) (at : ℕ) → laid o at t ≡ paste o at t (length t)
+unfolding laid
+laid_is o t at = ap (λ z. take at o ++ z ++ drop (at + length t) o) (sym (take-length t))
 
 -- one byte more behind bytes that were laid
 laid_more : (o t : List ℕ) (at c : ℕ) → at + length t < length o
@@ -46,18 +44,20 @@ laid_more o t at c h =
     ∙ ap (paste o at u) (sym n)
     ∙ ap (λ z. take at o ++ z ++ drop (at + length u) o) (take-length u)
 
-pub put : (o o' : List ℕ) (at : ℕ) (a : Answer) (p : Written) → Prints a p → o' ≡ laid o at (take p.len p.bytes)
-    → at + 33 ≤ length o → length o' ≡ length o
-    → Put o at a (at + p.len + 1) (set o' (at + p.len) 10)
-unfolding written_as
-put o o' at a p i e h z =
-    let n : length (printed a) ≡ p.len = ap length (sym i.text) ∙ sym (printed_length i) in
+pub put : {o ys p s : List ℕ} {at : ℕ} {a : Answer} → Prints a p → s ≡ p → ys ≡ s → at + 33 ≤ length o
+    → Put o at a (at + length s + 1) (set (put_mid at (at + length s - at) o ys) (at + length s) 10)
+unfolding written_as laid
+put {o} {ys} {p} {s} {at} {a} i d e h =
+    let n : length (printed a) ≡ length s = ap length (sym (d ∙ i.text)) in
+    let few : length s ≤ 32 = rw d i.few in
     let m = length-append (printed a) (10 ∷ []) in
+    let q : put_mid at (at + length s - at) o ys ≡ laid o at (printed a) = laid_part o ys (printed a) at (at + length s - at) (e ∙ d ∙ i.text) (omega (arith, n)) in
+    let z : length (laid o at (printed a)) ≡ length o = ap length (laid_is o (printed a) at) ∙ length-paste o at (printed a) (length (printed a)) (omega (arith, n, few)) (omega arith) in
     record {
-      whole = rw (e, i.text, ← n) (laid_more o (printed a) at 10 (omega (arith, n, i.few)));
+      whole = rw (q, ← n) (laid_more o (printed a) at 10 (omega (arith, n, few)));
       next = omega (arith, n, m);
-      few = rw length-set (omega (arith, z, i.few));
-      narrow = omega (arith, i.few);
+      few = rw (length-set, q) (omega (arith, z, few));
+      narrow = omega (arith, few);
     }
 
 -- ---- one line
@@ -72,14 +72,6 @@ module _ (b b' line o o' : List ℕ) (s : Bool) (at r : ℕ) (x : Answer) where
   }
 
 -- ---- line after line
-
-pub room_for : (n m : ℕ) {t : Bool} → t ≡ leb n m → t ≡ true → n ≤ m
-room_for n m e f = leb-true n m (sym e ∙ f)
-
--- the next line begins later
-pub comes_nearer : {text : List ℕ} {at : ℕ} {l : Span} → Splits text at l → l.end < length text
-    → length text - l.next < length text - at
-comes_nearer {text} {at} p h = omega (arith, p.from, p.onward, p.later (omega (arith, p.from)))
 
 module _ (s : Bool) where
   many_full : (ls : List (List ℕ)) (z : Standing) → room z ≡ false → many s ls z ≡ z
@@ -102,9 +94,6 @@ pub record Going (b₀ text o₀ : List ℕ) (s : Bool) (b o : List ℕ) (read w
   pub out_size : length o ≡ length o₀
 
 module _ {b₀ text o₀ : List ℕ} {s : Bool} where
-  pub going_first : Going b₀ text o₀ s b₀ o₀ 0 0
-  going_first = record { left = refl; inside = omega arith; few = omega arith; narrow = omega arith; book_size_lem = refl; out_size = refl }
-
   module _ {b o : List ℕ} {read written : ℕ} (g : Going b₀ text o₀ s b o read written) where
     came_to : many s (ended (drop read text)) (standing b o read written) ≡ standing b o read written
         → AnsweredBy s b₀ text o₀ (record { read = read; written = written }) b o

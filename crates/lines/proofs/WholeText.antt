@@ -195,13 +195,13 @@ told_more s b h piece pieces b' w w' after e f t =
 fed : {d : Desk} {b text written after : List ℕ} {pieces : List (List ℕ)} → Fed d b text pieces written after
     → Told d.sound b (lines_in (take d.held text) pieces) written after
 unfolding lines_in
-fed (last {d} {book} {text} {text₁} {out} {book'} {out'} {r} i e q) =
-    let t = e.takes q in
+fed (last {d} {book} {text} {text₁} {out} {book'} {out'} {r} i e) =
+    let t = e.takes in
     let h : take d.held text₁ ≡ take d.held text = ap (λ n. take n text₁) (sym (add-zero d.held)) ∙ i ∙ append-nil (take d.held text) in
     let x = output (answers_by Alone d.sound book (last_line (take d.held text₁))) in
     rw (← h) (record { outputs = front out x out' r.written t.written t.out; book = t.book })
-fed (more {d} {book} {text} {piece} {text₁} {out} {book'} {text'} {out'} {written} {after} {r} {pieces} e p q f) =
-    let t = p.takes q in
+fed (more {d} {book} {text} {piece} {text₁} {out} {book'} {text'} {out'} {written} {after} {r} {pieces} e p f) =
+    let t = p.takes in
     let h = take d.held text in
     let x = output (answers_by Alone d.sound book (ended (h ++ piece))) in
     let i = fed f in

@@ -1,5 +1,6 @@
 -- A text that comes in pieces, and a desk that answers its lines as they are ended. Assumes nothing.
-use Rattle.std.specs.Prelude.{ℕ, ◌+◌, ◌*◌, ◌≤◌, ◌≡◌, Bool, true, false, List, [], leb, length, take}
+use Rattle.std.specs.Prelude.{ℕ, ◌+◌, ◌*◌, ◌≤◌, ◌≡◌, Bool, List, [], leb, length, take, Option, IfSome, IfNone}
+use Rattle.std.specs.Option.{is_some}
 use Rattle.meaning.specs.Desk.{output}
 use Rattle.meaning.specs.declared.Sent.TheVariants.{Alone}
 use Rattle.book.specs.Sound.{sound}
@@ -23,30 +24,29 @@ pub record Takes (lines : List (List ℕ)) (kept : List ℕ) (d : Desk) (b t o :
   pub written : r.written ≡ length (output (answers_by Alone d.sound b lines))
   pub text : t' ≡ laid t 0 kept
   pub desk : r.desk ≡ record { held = length kept; sound = d.sound }
+  pub few : r.written ≤ length o'
 
 -- nothing is done
-pub record Leaves (d : Desk) (b t o : List ℕ) (r : Step) (b' t' o' : List ℕ) : Type 0 where
+pub record Leaves (b t o b' t' o' : List ℕ) : Type 0 where
   pub book : b' ≡ b
   pub out : o' ≡ o
-  pub written : r.written ≡ 0
   pub text : t' ≡ t
-  pub desk : r.desk ≡ d
 
--- a step: it says whether there is room for the answers to the bytes that stand, and does nothing where there is none
-pub record Steps (stands : List ℕ) (lines : List (List ℕ)) (kept : List ℕ) (d : Desk) (b t o : List ℕ) (r : Step) (b' t' o' : List ℕ) : Type 0 where
-  pub room : r.room ≡ room_for stands o
-  pub takes : r.room ≡ true → Takes lines kept d b t o r b' t' o'
-  pub leaves : r.room ≡ false → Leaves d b t o r b' t' o'
-  pub few : r.written ≤ length o'
+-- a step: there is one where there is room for the answers to the bytes that stand; where there is none, nothing is
+-- done
+pub record Steps (stands : List ℕ) (lines : List (List ℕ)) (kept : List ℕ) (d : Desk) (b t o : List ℕ) (r : Option Step) (b' t' o' : List ℕ) : Type 0 where
+  pub room : is_some r ≡ room_for stands o
+  pub takes : IfSome r (λ s. Takes lines kept d b t o s b' t' o')
+  pub leaves : IfNone r (Leaves b t o b' t' o')
 
 -- a piece came behind the bytes that are held: the lines that are ended now are answered, and the line that is begun is
 -- kept, as much of it as its answer depends on
-abbrev pub Piece : Desk → ℕ → List ℕ → List ℕ → List ℕ → Step → List ℕ → List ℕ → List ℕ → Type 0
+abbrev pub Piece : Desk → ℕ → List ℕ → List ℕ → List ℕ → Option Step → List ℕ → List ℕ → List ℕ → Type 0
 Piece d came book text out r book' text' out' =
     let stands = take (d.held + came) text in
     Steps stands (ended stands) (short (begun stands)) d book text out r book' text' out'
 
 -- the end of input: the line that is begun is answered, if there is one, and nothing is held
-abbrev pub End : Desk → List ℕ → List ℕ → List ℕ → Step → List ℕ → List ℕ → Type 0
+abbrev pub End : Desk → List ℕ → List ℕ → List ℕ → Option Step → List ℕ → List ℕ → Type 0
 End d book text out r book' out' =
     let stands = take d.held text in Steps stands (last_line stands) [] d book text out r book' text out'

@@ -1,6 +1,6 @@
 -- A text that is read in pieces is answered as if it had come whole. Stated here, proved in proofs/WholeText. Assumes
 -- nothing.
-use Rattle.std.specs.Prelude.{ℕ, ◌+◌, ◌≤◌, ◌≡◌, true, List, [], ◌∷◌, ◌++◌, length, take}
+use Rattle.std.specs.Prelude.{ℕ, ◌+◌, ◌≤◌, ◌≡◌, Some, List, [], ◌∷◌, ◌++◌, length, take, Ok}
 use Rattle.meaning.specs.Desk.{lines_of, output}
 use Rattle.meaning.specs.Lone.{lone_answers}
 use Rattle.meaning.specs.declared.Answer.{Answer}
@@ -18,14 +18,15 @@ abbrev pub Reads : Desk → List ℕ → List ℕ → List ℕ → Type 0
 Reads d text piece text' = take (d.held + length piece) text' ≡ take d.held text ++ piece
 
 -- pieces handed to a desk one by one up to the end of input, what it writes to the output, and the book after them:
--- each step is exactly what `answer_piece` promises, and the last what `answer_end` promises
+-- each step is exactly what `Desk::answer_piece` promises where there is room, and the last what `Desk::answer_end`
+-- promises
 pub data Fed : Desk → List ℕ → List ℕ → List (List ℕ) → List ℕ → List ℕ → Type 0 where
   last : {d : Desk} {book text text₁ out book' out' : List ℕ} {r : Step}
-      → Reads d text [] text₁ → End d book text₁ out r book' out' → r.room ≡ true
+      → Reads d text [] text₁ → End d book text₁ out (Some r) book' out'
       → Fed d book text [] (take r.written out') book'
   more : {d : Desk} {book text piece text₁ out book' text' out' written after : List ℕ} {r : Step}
       {pieces : List (List ℕ)}
-      → Reads d text piece text₁ → Piece d (length piece) book text₁ out r book' text' out' → r.room ≡ true
+      → Reads d text piece text₁ → Piece d (length piece) book text₁ out (Some r) book' text' out'
       → Fed r.desk book' text' pieces written after
       → Fed d book text (piece ∷ pieces) (take r.written out' ++ written) after
 
@@ -65,7 +66,7 @@ pub record Alone (text written : List ℕ) : Type 0 where
 
 abbrev pub DeskAlone : Type 0
 DeskAlone =
-    (lent emptied : List ℕ) → Emptied lent emptied 0
+    (lent emptied : List ℕ) → Emptied lent emptied (Ok tt)
     → (text : List ℕ) (pieces : List (List ℕ)) (written after : List ℕ)
     → Fed (at_first emptied) emptied text pieces written after
     → Alone (joined pieces) written

@@ -2,8 +2,8 @@
 // begun is kept for the next piece.
 #![tactic(auto)]
 
-ghost use Rattle.std.specs.Prelude.{◌≡◌, ◌+◌, ◌-◌, ◌*◌, ◌≤◌, min, leb, length};
-ghost use Rattle.lines.specs.Many.{laid, Put, Turn, AnsweredBy, Answered};
+ghost use Rattle.std.specs.Prelude.{◌≡◌, ◌+◌, ◌*◌, ◌≤◌, leb, length};
+ghost use Rattle.lines.specs.Many.{Put, Turn, AnsweredBy, Answered};
 ghost use Rattle.lines.specs.Sent.{SentLines};
 ghost use Rattle.lines.specs.Keeping.{Keeps};
 ghost use Rattle.lines.specs.Pieces.{at_first, Piece, End};
@@ -12,6 +12,12 @@ use answering::answer;
 use meaning::{Answer, Sent};
 use soundness::is_sound;
 use text::{next_line, print};
+
+// An answer has at most so many bytes with its byte 10.
+pub const ANSWER_BYTES: usize = 33;
+
+// Of a line that is begun so many bytes are kept, since a line over 80 bytes is refused whatever follows.
+const KEPT_BYTES: usize = 81;
 
 // How many bytes of a text were read, and how many of the answer space are written.
 #[derive(Clone, Copy)]
@@ -28,35 +34,18 @@ pub struct Desk {
     pub sound: bool,
 }
 
-// A step of a desk: the desk after it, how many bytes of the answer space are written, and whether the space was large
-// enough; where it was not, nothing was done.
+// A step of a desk: the desk after it, and how many bytes of the answer space are written.
 #[derive(Clone, Copy)]
 pub struct Step {
     pub desk: Desk,
     pub written: usize,
-    pub room: bool,
 }
 
 // Whether an answer of any length fits from an index on.
 fn has_room(out: &[u8], at: usize) -> bool
     ensures { result ≡ leb (at + 33) (length out.now) }
 {
-    if at <= out.len() {
-        return out.len() - at >= 33;
-    }
-    false
-}
-
-// Copies bytes to an index.
-fn lay(out: &mut [u8], at: usize, bytes: &[u8])
-    requires { at + length bytes.now ≤ length out.old }
-    ensures { out.new ≡ laid out.old at bytes.now }
-{
-    let mut i = 0;
-    while i < bytes.len() {
-        out[at + i] = bytes[i];
-        i += 1;
-    }
+    out.len().saturating_sub(at) >= ANSWER_BYTES
 }
 
 // Writes an answer to an index, ended by byte 10, and returns where the next one goes.
@@ -65,11 +54,11 @@ fn put_answer(out: &mut [u8], at: usize, a: Answer) -> usize
     ensures { Put out.old at a result out.new }
 {
     let p = print(a);
-    let n = p.len;
-    let bytes = p.bytes;
-    lay(out, at, &bytes[..n]);
-    out[at + n] = b'\n';
-    at + n + 1
+    let bytes = p.as_slice();
+    let end = at + bytes.len();
+    out[at..end].copy_from_slice(bytes);
+    out[end] = b'\n';
+    end + 1
 }
 
 // Answers a line over a book that was found to be sound, or not to be, and writes the answer to an index.
@@ -82,7 +71,8 @@ fn answer_line(book: &mut [u8], line: &[u8], sound: bool, out: &mut [u8], at: us
 }
 
 // Answers the ended lines of a text one by one over a book that was found to be sound, or not to be, and writes the
-// answers into a lent space. It stops where an answer might not fit, and says how far it came.
+// answers into a lent space. It stops where an answer might not fit, and says how far it came: since text and answers
+// go on by different steps, an iterator over the lines would need both numbers beside it.
 fn answer_lines(book: &mut [u8], text: &[u8], sound: bool, out: &mut [u8]) -> Progress
     ensures { AnsweredBy sound book.old text.now out.old result book.new out.new }
 {
@@ -112,122 +102,77 @@ pub fn submit_lines(book: &mut [u8], text: &[u8], out: &mut [u8]) -> Progress
 
 // ---- the begun line
 
-fn least(a: usize, b: usize) -> usize
-    ensures { result ≡ min a b }
-{
-    if a < b { a } else { b }
-}
-
-// The difference, 0 where there is none.
-fn minus(a: usize, b: usize) -> usize
-    ensures { result ≡ a - b }
-{
-    if a < b { 0 } else { a - b }
-}
-
 // Moves the bytes from an index up to another to the front of a text and returns how many they are: the line that is
-// begun, which goes on with what is read next. Of more than 81 bytes it keeps 81, since a line over 80 bytes is refused
-// whatever follows.
+// begun, which goes on with what is read next. Of more than 81 bytes it keeps 81.
 fn keep(text: &mut [u8], from: usize, to: usize) -> usize
     ensures { Keeps text.old from to result text.new }
 {
     let len = text.len();
-    let n = least(81, least(minus(to, from), minus(len, from)));
-    let mut i = 0;
-    while i < n {
-        text[i] = text[from + i];
-        i += 1;
-    }
+    let from = from.min(len);
+    let n = to.min(len).saturating_sub(from).min(KEPT_BYTES);
+    text.copy_within(from..from + n, 0);
     n
 }
 
 // ---- a desk
 
-// How many bytes of a text stand, where some are held and others came behind them: no more than it has.
-fn reach(held: usize, came: usize, len: usize) -> usize
-    ensures { result ≡ min (held + came) len }
-{
-    if held >= len {
-        return len;
-    }
-    if came >= len - held {
-        return len;
-    }
-    held + came
-}
-
 // Whether the answers to a text of n bytes fit: 33 bytes for each.
 fn has_room_for(out: &[u8], n: usize) -> bool
     ensures { result ≡ leb (33 * n) (length out.now) }
 {
-    n <= out.len() / 33
+    n <= out.len() / ANSWER_BYTES
 }
 
-// A desk before the first piece.
-pub fn begin(book: &[u8]) -> Desk
-    ensures { result ≡ at_first book.now }
-{
-    let found = is_sound(book);
-    Desk {
-        held: 0,
-        sound: found,
+// A step is None where the answer space is too small for it; then nothing was done.
+impl Desk {
+    // A desk before the first piece.
+    pub fn begin(book: &[u8]) -> Desk
+        ensures { result ≡ at_first book.now }
+    {
+        Desk {
+            held: 0,
+            sound: is_sound(book),
+        }
     }
-}
 
-// A piece came behind the bytes that the desk holds: the lines that are ended now are answered, and the line that is
-// begun is kept at the front of the text.
-pub fn answer_piece(
-    desk: Desk,
-    came: usize,
-    book: &mut [u8],
-    text: &mut [u8],
-    out: &mut [u8],
-) -> Step
-    ensures { Piece desk came book.old text.old out.old result book.new text.new out.new }
-{
-    let n = reach(desk.held, came, text.len());
-    if !has_room_for(out, n) {
-        return Step {
-            desk,
-            written: 0,
-            room: false,
-        };
+    // A piece came behind the bytes that the desk holds: the lines that are ended now are answered, and the line that
+    // is begun is kept at the front of the text.
+    pub fn answer_piece(
+        self,
+        came: usize,
+        book: &mut [u8],
+        text: &mut [u8],
+        out: &mut [u8],
+    ) -> Option<Step>
+        ensures { Piece self came book.old text.old out.old result book.new text.new out.new }
+    {
+        let n = self.held.saturating_add(came).min(text.len());
+        if !has_room_for(out, n) {
+            return None;
+        }
+        let sound = self.sound;
+        let p = answer_lines(book, &text[..n], sound, out);
+        let held = keep(text, p.read, n);
+        Some(Step {
+            desk: Desk { held, sound },
+            written: p.written,
+        })
     }
-    let sound = desk.sound;
-    let p = answer_lines(book, &text[..n], sound, out);
-    let held = keep(text, p.read, n);
-    Step {
-        desk: Desk { held, sound },
-        written: p.written,
-        room: true,
-    }
-}
 
-// The end of input: the line that is begun is answered, if there is one.
-pub fn answer_end(desk: Desk, book: &mut [u8], text: &[u8], out: &mut [u8]) -> Step
-    ensures { End desk book.old text.now out.old result book.new out.new }
-{
-    let n = least(desk.held, text.len());
-    if !has_room_for(out, n) {
-        return Step {
-            desk,
-            written: 0,
-            room: false,
-        };
-    }
-    let sound = desk.sound;
-    let end = Desk { sound, held: 0 };
-    if n == 0 {
-        return Step {
-            desk: end,
-            written: 0,
-            room: true,
-        };
-    }
-    let written = answer_line(book, &text[..n], sound, out, 0);
-    Step {
-        desk: end,
-        written,
-        room: true,
+    // The end of input: the line that is begun is answered, if there is one.
+    pub fn answer_end(self, book: &mut [u8], text: &[u8], out: &mut [u8]) -> Option<Step>
+        ensures { End self book.old text.now out.old result book.new out.new }
+    {
+        let n = self.held.min(text.len());
+        if !has_room_for(out, n) {
+            return None;
+        }
+        let sound = self.sound;
+        let desk = Desk { sound, held: 0 };
+        if n == 0 {
+            return Some(Step { desk, written: 0 });
+        }
+        let written = answer_line(book, &text[..n], sound, out, 0);
+        Some(Step { desk, written })
     }
 }

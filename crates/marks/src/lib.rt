@@ -1,29 +1,26 @@
-// Tables of numbers that are addressed by key: marks, one to an entry, and flags, four to an entry, so that fewer bytes
-// are cleared. Past its end a table has neither.
+// Tables of numbers that are addressed by key: marks, one to an entry, and flags, several to an entry, so that fewer
+// bytes are cleared. Past its end a table has neither.
 #![tactic(auto)]
 
-ghost use Rattle.std.specs.Prelude.{◌/◌, ◌%◌, ◌≡◌, cond, length, set, get_or};
-ghost use Rattle.tables.specs.Bytes.{zeros};
-ghost use Rattle.tables.specs.Keyed.{marked};
-ghost use Rattle.marks.specs.Flags.{weight, flag, with_flag, flagged};
+ghost use Rattle.std.specs.Prelude.{◌+◌, ◌*◌, ◌/◌, ◌%◌, ◌<◌, ◌≤◌, ◌≡◌, cond, set, get_or};
+ghost use Rattle.tables.specs.Keyed.{marked, Blank};
+ghost use Rattle.marks.specs.Flags.{flag, with_flag, flagged};
 
 use basics::byte_at;
 
-// Makes every entry 0.
-pub fn clear(b: &mut [u8])
-    ensures { b.new ≡ zeros (length b.old) }
+// A table without an entry, in a function of its own, so that no proof shows its cells.
+pub fn blank<const N: usize>() -> [u8; N]
+    ensures { Blank N result }
 {
-    let n = b.len();
-    for i in 0..n {
-        b[i] = 0;
-    }
+    [0; N]
 }
 
-// The entry at a key, 0 past the end.
-pub fn look(t: &[u8], k: usize) -> u8
-    ensures { result ≡ get_or t.now k 0 }
+// The key of two numbers, of which the second is below N.
+pub fn key<const N: usize>(first: u32, second: u8) -> usize
+    requires { N < 65536 }
+    ensures { result ≡ first * N + second }
 {
-    byte_at(t, k)
+    first as usize * N + usize::from(second)
 }
 
 pub fn is_marked(t: &[u8], k: usize) -> bool
@@ -36,61 +33,41 @@ pub fn is_marked(t: &[u8], k: usize) -> bool
 pub fn store(t: &mut [u8], k: usize, on: bool, v: u8)
     ensures { t.new ≡ cond on (set t.old k v) t.old }
 {
-    if on {
-        if k < t.len() {
-            t[k] = v;
-        }
+    if on && k < t.len() {
+        t[k] = v;
     }
 }
 
-// The flag of the key k is flag k % 4 of the entry at k / 4.
-
-fn flag_weight(k: usize) -> u8
-    ensures { result ≡ weight (k % 4) }
-{
-    match k % 4 {
-        0 => 1,
-        1 => 2,
-        2 => 4,
-        _ => 8,
-    }
-}
+// With N flags to an entry, that of the key k is flag k % N of the entry at k / N.
 
 // Whether an entry has the flag of a key.
-fn has_flag(x: u8, k: usize) -> bool
-    ensures { result ≡ flag (k % 4) x }
+fn has_flag<const N: usize>(x: u8, k: usize) -> bool
+    requires { (0 < N) × (N ≤ 8) }
+    ensures { result ≡ flag (k % N) x }
 {
-    match k % 4 {
-        0 => x % 2 == 1,
-        1 => x / 2 % 2 == 1,
-        2 => x / 2 / 2 % 2 == 1,
-        _ => x / 2 / 2 / 2 % 2 == 1,
-    }
+    x >> (k % N) & 1 == 1
 }
 
 // An entry with the flag of a key.
-fn with_flag(x: u8, k: usize) -> u8
-    ensures { result ≡ with_flag (k % 4) x }
+pub fn with_flag<const N: usize>(x: u8, k: usize) -> u8
+    requires { (0 < N) × (N ≤ 8) }
+    ensures { result ≡ with_flag (k % N) x }
 {
-    if has_flag(x, k) {
-        x
-    } else {
-        x + flag_weight(k)
-    }
+    x | 1 << (k % N)
 }
 
-pub fn is_flagged(t: &[u8], k: usize) -> bool
-    ensures { result ≡ flagged t.now k }
+pub fn is_flagged<const N: usize>(t: &[u8], k: usize) -> bool
+    requires { (0 < N) × (N ≤ 8) }
+    ensures { result ≡ flagged N t.now k }
 {
-    has_flag(byte_at(t, k / 4), k)
+    has_flag::<N>(byte_at(t, k / N), k)
 }
 
 // Stores the flag of a key, if asked to, and nothing past the end.
-pub fn store_flag(t: &mut [u8], k: usize, on: bool)
-    ensures { t.new ≡ cond on (set t.old (k / 4) (with_flag (k % 4) (get_or t.old (k / 4) 0))) t.old }
+pub fn store_flag<const N: usize>(t: &mut [u8], k: usize, on: bool)
+    requires { (0 < N) × (N ≤ 8) }
+    ensures { t.new ≡ cond on (set t.old (k / N) (with_flag (k % N) (get_or t.old (k / N) 0))) t.old }
 {
-    if on {
-        let entry = byte_at(t, k / 4);
-        store(t, k / 4, true, with_flag(entry, k));
-    }
+    let entry = byte_at(t, k / N);
+    store(t, k / N, on, with_flag::<N>(entry, k));
 }

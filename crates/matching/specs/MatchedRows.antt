@@ -3,13 +3,12 @@
 -- nothing.
 use Rattle.std.specs.Prelude.{ℕ, zero, suc, ◌+◌, ◌*◌, Bool, false, ◌&&◌, ◌||◌, cond, List, [], ◌∷◌, eqb, get_or}
 use Rattle.tables.specs.Count.{all_below}
-use Rattle.tables.specs.Keyed.{keys, after_place, Keyed}
+use Rattle.tables.specs.Keyed.{keys, Keyed}
 use Rattle.meaning.specs.Records.{party, account, security}
 use Rattle.meaning.specs.Judging.{covers}
 use Rattle.places.specs.Layout.{row_places, period_places, row_at, period_at}
 use Rattle.places.specs.declared.Row.{Row}
 use Rattle.places.specs.declared.Period.{Period}
-use Rattle.marks.specs.Flags.{after_flag}
 use Rattle.commands.specs.declared.Question.{Question}
 
 -- ---- the keys of the tables: the last part is below 4 and 100
@@ -29,7 +28,11 @@ period_key p = code_key p.code p.kind
 abbrev pub row_key : Row → ℕ
 row_key w = rule_key w.number w.sequence
 
--- the sizes of the tables; that of codes has four keys to an entry
+-- how many keys a code has, one for each kind and 0: the flags of one entry of the table of codes
+abbrev pub kinds : ℕ
+kinds = 4
+
+-- the sizes of the tables; that of codes has the keys of a code in one entry
 abbrev pub code_keys : ℕ
 code_keys = 40000
 
@@ -47,10 +50,6 @@ sought q kind = cond (eqb kind party) q.party (cond (eqb kind account) q.account
 
 unfoldable pub borne_by : Question → Period → Bool
 borne_by q p = eqb p.number (sought q p.kind) && covers p.first p.last q.day
-
--- the table of codes after the period at place i
-abbrev pub mark_code : List ℕ → Question → ℕ → List ℕ → List ℕ
-mark_code b q i t = after_flag (λ p. p.csd) q.csd period_key (borne_by q) (period_at b i) t
 
 unfoldable pub codes_borne : List ℕ → Question → ℕ → Bool
 codes_borne b q = keys (λ p. p.csd) q.csd (period_at b) period_key (borne_by q) code_keys period_places
@@ -88,11 +87,6 @@ values_met fs vs = all_below (λ i. value_met fs i (get_or vs i 0)) 10
 
 unfoldable pub row_matches : Question → (ℕ → Bool) → Row → Bool
 row_matches q codes w = eqb w.object q.object && values_met (tests q codes) w.values
-
--- the table of rules with a matching row, after the row at place i
-abbrev pub mark_row : List ℕ → Question → (ℕ → Bool) → ℕ → List ℕ → List ℕ
-mark_row b q codes i t =
-    after_place (λ w. w.csd) q.csd row_key (row_matches q codes) (λ w m. 1) (row_at b i) t
 
 unfoldable pub rows_matched : List ℕ → Question → (ℕ → Bool) → ℕ → Bool
 rows_matched b q codes =

@@ -2,197 +2,166 @@
 // question's party, account and security bear, then the rows.
 #![tactic(auto)]
 
-ghost use Rattle.std.specs.Prelude.{◌≡◌, length};
-ghost use Rattle.tables.specs.Keyed.{Blank};
+ghost use Rattle.std.specs.Prelude.{◌≡◌, ◌/◌, ◌%◌, ◌||◌, length, eqb};
 ghost use Rattle.meaning.specs.Judging.{covers};
-ghost use Rattle.marks.specs.Flags.{flagged};
-ghost use Rattle.matching.specs.MatchedRows.{code_key, rule_key, code_entries, sought, borne_by, mark_code, codes_borne, tests, test_at, value_met, values_met, row_matches, mark_row, RowsMarked};
+ghost use Rattle.marks.specs.Flags.{with_flag, flagged};
+ghost use Rattle.matching.specs.MatchedRows.{kinds, code_key, rule_key, code_entries, sought, borne_by, period_key, row_key, codes_borne, tests, values_met, row_matches, RowsMarked};
 
-use basics::{and, no, or, pick};
 use commands::Question;
-use marks::{clear, is_flagged, store, store_flag};
-use owners::{next_period, next_row};
+use marks::{blank, is_flagged, key, with_flag};
+use passes::{Pass, run};
 use places::{Period, Row};
 
-// The sizes of the tables of marks. That of codes has the four keys of a code, one for each kind and 0, in one entry.
+// The keys of a code, one for each kind and 0; in the table of codes they are the flags of one entry.
+const KINDS: usize = 4;
+
+// The sequences of a type's rules are below this number.
+const SEQUENCES: usize = 100;
+
+// The sizes of the tables.
 const CODE_ENTRIES: usize = 10000;
 
 pub const RULE_KEYS: usize = 10000;
-
-// The criteria (document 01, 'Lines').
-const PARTY_TYPE: u8 = 0;
-
-const MOVEMENT: u8 = 1;
-
-const PAYMENT: u8 = 2;
-
-const TRANSACTION: u8 = 3;
-
-const SECURITY: u8 = 4;
-
-const ACCOUNT: u8 = 5;
-
-const PARTY_CODE: u8 = 6;
-
-const ACCOUNT_CODE: u8 = 7;
-
-const SECURITY_CODE: u8 = 8;
-
-const CURRENCY: u8 = 9;
 
 // First and last day both count.
 pub fn covers(first: u32, last: u32, day: u32) -> bool
     ensures { result ≡ covers first last day }
 {
-    and(first <= day, day <= last)
-}
-
-fn code_key(code: u32, kind: u8) -> usize
-    ensures { result ≡ code_key code kind }
-{
-    code as usize * 4 + kind as usize
+    first <= day && day <= last
 }
 
 // The key of a rule of the question's object.
 pub fn rule_key(number: u8, sequence: u8) -> usize
     ensures { result ≡ rule_key number sequence }
 {
-    number as usize * 100 + sequence as usize
-}
-
-// A table without a flag, in a function of its own, so that no proof shows its cells.
-
-fn no_codes() -> [u8; CODE_ENTRIES]
-    ensures { Blank code_entries result }
-{
-    [0; CODE_ENTRIES]
+    key::<SEQUENCES>(u32::from(number), sequence)
 }
 
 // 1. The codes that the question's party, account and security bear on the day.
 
 // The question's number of a kind.
+#[tactic(auto, unfolding(crate::specs::MatchedRows::sought))]
 fn sought(q: Question, kind: u8) -> u32
     ensures { result ≡ sought q kind }
 {
-    pick(
-        kind == Period::PARTY,
-        q.party,
-        pick(kind == Period::ACCOUNT, q.account, q.security),
-    )
+    match kind {
+        Period::PARTY => q.party,
+        Period::ACCOUNT => q.account,
+        _ => q.security,
+    }
 }
 
-// A period of the question's party, account or security that covers the day.
-fn borne_by(q: Question, p: Period) -> bool
-    ensures { result ≡ borne_by q p }
-{
-    and(
-        p.number == sought(q, p.kind),
-        covers(p.first, p.last, q.day),
-    )
+// The flags of the codes that a question bears.
+#[derive(Clone, Copy)]
+struct Codes {
+    q: Question,
 }
 
-// Flags the code of the period at a place, if it is borne.
-fn mark_code(t: &mut [u8], b: &[u8], q: Question, i: u16)
-    ensures { t.new ≡ mark_code b.now q i t.old }
-{
-    if places::period_csd(b, i) == q.csd {
-        let p = places::period_at(b, i);
-        store_flag(t, code_key(p.code, p.kind), borne_by(q, p));
+impl Pass for Codes {
+    type Record = Period;
+
+    ghost on = { λ s p. borne_by s.q p };
+
+    ghost key = { λ s p. period_key p / kinds };
+
+    ghost entry = { λ s p m. with_flag (period_key p % kinds) m };
+
+    // A period of the question's party, account or security that covers the day.
+    #[tactic(auto, unfolding(crate::specs::MatchedRows::borne_by))]
+    fn is_on(&self, p: Period) -> bool {
+        p.number == sought(self.q, p.kind) && covers(p.first, p.last, self.q.day)
+    }
+
+    fn key(&self, p: Period) -> usize {
+        key::<KINDS>(p.code, p.kind) / KINDS
+    }
+
+    fn entry(&self, p: Period, before: u8) -> u8 {
+        with_flag::<KINDS>(before, key::<KINDS>(p.code, p.kind))
     }
 }
 
 fn codes_borne(t: &mut [u8], b: &[u8], q: Question)
-    requires { Blank code_entries t.old }
-    ensures { flagged t.new ≡ codes_borne b.now q }
+    requires { length t.old ≡ code_entries }
+    ensures { flagged kinds t.new ≡ codes_borne b.now q }
 {
-    let mut i: u16 = 0;
-    while i < Period::PLACES {
-        let k = next_period(b, i, q.csd);
-        if k == Period::PLACES {
-            return;
-        }
-        mark_code(t, b, q, k);
-        i = k + 1;
-    }
+    run(&Codes { q }, t, b, q.csd);
 }
 
 // 2. The rules of which a row matches. A row fills exactly its rule's criteria, so its filled values tell which are
 // tested.
 
-// Whether the question meets a value at a criterion.
-fn criterion_met(i: u8, v: u32, q: Question, codes: &[u8]) -> bool
-    ensures { result ≡ test_at (tests q (flagged codes.now)) i v }
+// Whether a value is empty, or the question's own.
+fn is_met(v: u32, asked: u32) -> bool
+    ensures { result ≡ (eqb v 0 || eqb asked v) }
 {
-    match i {
-        PARTY_TYPE => q.role == v,
-        MOVEMENT => q.movement == v,
-        PAYMENT => q.payment == v,
-        TRANSACTION => q.transaction == v,
-        SECURITY => q.security == v,
-        ACCOUNT => q.account == v,
-        PARTY_CODE => is_flagged(codes, code_key(v, Period::PARTY)),
-        ACCOUNT_CODE => is_flagged(codes, code_key(v, Period::ACCOUNT)),
-        SECURITY_CODE => is_flagged(codes, code_key(v, Period::SECURITY)),
-        CURRENCY => q.currency == v,
-        _ => false,
-    }
+    v == 0 || asked == v
 }
 
-// Whether a value is empty or met.
-fn value_met(i: u8, v: u32, q: Question, codes: &[u8]) -> bool
-    ensures { result ≡ value_met (tests q (flagged codes.now)) i v }
+// Whether a value is empty, or a code of the kind that is borne.
+fn is_borne(v: u32, kind: u8, codes: &[u8]) -> bool
+    ensures { result ≡ (eqb v 0 || flagged kinds codes.now (code_key v kind)) }
 {
-    or(v == 0, criterion_met(i, v, q, codes))
+    v == 0 || is_flagged::<KINDS>(codes, key::<KINDS>(v, kind))
 }
 
-// Whether each filled value is met; the first that is not decides.
+// Whether each filled value is met. All ten are asked, by `&`: each is a call, and the proof takes them together.
 fn values_met(values: [u32; 10], q: Question, codes: &[u8]) -> bool
-    ensures { result ≡ values_met (tests q (flagged codes.now)) values }
+    ensures { result ≡ values_met (tests q (flagged kinds codes.now)) values }
 {
-    for i in 0..10 {
-        let v = values[i as usize];
-        if no(value_met(i, v, q, codes)) {
-            return false;
-        }
+    // The criteria in their order (document 01, 'Lines').
+    let [
+        role,
+        movement,
+        payment,
+        transaction,
+        security,
+        account,
+        party_code,
+        account_code,
+        security_code,
+        currency,
+    ] = values;
+    is_met(role, q.role)
+        & is_met(movement, q.movement)
+        & is_met(payment, q.payment)
+        & is_met(transaction, q.transaction)
+        & is_met(security, q.security)
+        & is_met(account, q.account)
+        & is_borne(party_code, Period::PARTY, codes)
+        & is_borne(account_code, Period::ACCOUNT, codes)
+        & is_borne(security_code, Period::SECURITY, codes)
+        & is_met(currency, q.currency)
+}
+
+// The marks of the rules of which a row matches a question, by the codes that it bears.
+#[derive(Clone, Copy)]
+struct Rows<'a> {
+    q: Question,
+    codes: &'a [u8],
+}
+
+impl<'a> Pass for Rows<'a> {
+    type Record = Row;
+
+    ghost on = { λ s w. row_matches s.q (flagged kinds s.codes.now) w };
+
+    ghost key = { λ s w. row_key w };
+
+    ghost entry = { λ s w m. 1 };
+
+    // A row without a filled value matches; a sound book has none.
+    #[tactic(auto, unfolding(crate::specs::MatchedRows::row_matches))]
+    fn is_on(&self, w: Row) -> bool {
+        w.object == self.q.object && values_met(w.values, self.q, self.codes)
     }
-    true
-}
 
-// A row without a filled value matches; a sound book has none.
-fn row_matches(q: Question, codes: &[u8], w: Row) -> bool
-    ensures { result ≡ row_matches q (flagged codes.now) w }
-{
-    let values = w.values;
-    and(w.object == q.object, values_met(values, q, codes))
-}
-
-// Marks the rule of the row at a place, if the row matches.
-fn mark_row(t: &mut [u8], b: &[u8], q: Question, codes: &[u8], i: u16)
-    ensures { t.new ≡ mark_row b.now q (flagged codes.now) i t.old }
-{
-    if places::row_csd(b, i) == q.csd {
-        let w = places::row_at(b, i);
-        store(
-            t,
-            rule_key(w.number, w.sequence),
-            row_matches(q, codes, w),
-            1,
-        );
+    fn key(&self, w: Row) -> usize {
+        rule_key(w.number, w.sequence)
     }
-}
 
-fn rows_matched(t: &mut [u8], b: &[u8], q: Question, codes: &[u8])
-    requires { Blank (length t.old) t.old }
-    ensures { RowsMarked (length t.old) b.now q (flagged codes.now) t.new }
-{
-    let mut i: u16 = 0;
-    while i < Row::PLACES {
-        let k = next_row(b, i, q.csd);
-        if k == Row::PLACES {
-            return;
-        }
-        mark_row(t, b, q, codes, k);
-        i = k + 1;
+    fn entry(&self, _w: Row, _before: u8) -> u8 {
+        1
     }
 }
 
@@ -200,8 +169,8 @@ fn rows_matched(t: &mut [u8], b: &[u8], q: Question, codes: &[u8])
 pub fn mark_rules(t: &mut [u8], b: &[u8], q: Question)
     ensures { RowsMarked (length t.old) b.now q (codes_borne b.now q) t.new }
 {
-    let mut codes = no_codes();
+    let mut codes: [u8; CODE_ENTRIES] = blank();
     codes_borne(&mut codes, b, q);
-    clear(t);
-    rows_matched(t, b, q, &codes);
+    let rows = Rows { q, codes: &codes };
+    run(&rows, t, b, q.csd);
 }

@@ -1,10 +1,10 @@
 -- Lines of which these are answered K: their commands are in range and not refused, and the book is edited by each in
 -- turn.
-use Prim.Native.Nat.{ℕ, zero, suc}
+use Prim.Native.Nat.{ℕ}
 use mathlib.Core.Path.{◌≡◌, refl, ap, sym, subst, ◌∙◌}
 use mathlib.Core.Bool.{Bool, true, false}
 use mathlib.Core.List.{List, [], ◌∷◌}
-use mathlib.Core.Option.{some}
+use Rattle.std.specs.Prelude.{Option, Some, None}
 use native.Mathlib.Omega.{arith}
 use Rattle.meaning.specs.Records.{◌!◌, Book, Question, Command, command_of, ask}
 use Rattle.meaning.specs.Reading.{Reading, refused, asks, reading}
@@ -12,6 +12,7 @@ use Rattle.meaning.specs.Refusals.{conditions, refusal}
 use Rattle.meaning.specs.Edits.{edited, fits}
 use Rattle.meaning.specs.Judging.{judged}
 use Rattle.meaning.specs.Status.{answer_to}
+use Rattle.meaning.specs.declared.Refusal.{Refusal}
 use Rattle.meaning.specs.declared.Wishes.{Wishes}
 use Rattle.meaning.specs.Lone.{Step, elsewhere, reply, replied, unless, taken_sent, taken, after_reading, step_sent, step, after_sent}
 use Rattle.meaning.specs.declared.Answer.TheVariants.{Taken}
@@ -24,30 +25,30 @@ use Rattle.meaning.proofs.HowSent.{sent_here}
 -- the commands are in range and not refused, one after the other, and leave the book c
 abbrev pub Accepted : Book → List Command → Book → Type 0
 Accepted b [] c = c ≡ b
-Accepted b (k ∷ ks) c = (fits k ≡ true) × (refusal b k ≡ 0) × Accepted (edited b k) ks c
+Accepted b (k ∷ ks) c = (fits k ≡ true) × (refusal b k ≡ None) × Accepted (edited b k) ks c
 
 -- what one line that is answered K does
 pub record One (b : Book) (k : Command) (s : Step) : Type 0 where
   pub range : fits k ≡ true
-  pub free : refusal b k ≡ 0
+  pub free : refusal b k ≡ None
   pub left : s.book ≡ edited b k
 
-unless_taken : (n : ℕ) (b : Book) (k : Command) → (unless n b k).answer ≡ Taken
-    → (n ≡ 0) × ((unless n b k).book ≡ edited b k)
+unless_taken : (o : Option Refusal) (b : Book) (k : Command) → (unless o b k).answer ≡ Taken
+    → (o ≡ None) × ((unless o b k).book ≡ edited b k)
 unfolding unless
-unless_taken zero b k e = (refl, refl)
-unless_taken (suc n) b k e = absurd (let z : ◌≡◌ {A = ℕ} 0 1 = cc in omega arith)
+unless_taken None b k e = (refl, refl)
+unless_taken (Some r) b k e = absurd (let z : ◌≡◌ {A = ℕ} 0 1 = cc in omega arith)
 
 taken_sent_lem : (e : Bool) (b : Book) (k : Command) → (taken_sent e b k).answer ≡ Taken
-    → (refusal b k ≡ 0) × ((taken_sent e b k).book ≡ edited b k)
+    → (refusal b k ≡ None) × ((taken_sent e b k).book ≡ edited b k)
 unfolding taken_sent refusal
 taken_sent_lem true b k t = absurd (let z : ◌≡◌ {A = ℕ} 0 1 = cc in omega arith)
 taken_sent_lem false b k t = unless_taken (refusal b k) b k t
 
 read_taken : (how : Sent) (b : Book) (line : List ℕ) (r : Reading) (k : Command) → reading line ≡ r
-    → command_read r ≡ some k → (after_reading how b r).answer ≡ Taken → One b k (after_reading how b r)
+    → command_read r ≡ Some k → (after_reading how b r).answer ≡ Taken → One b k (after_reading how b r)
 unfolding after_reading command_read
-read_taken how b line (refused n) k z e t = absurd (let z : ◌≡◌ {A = ℕ} 0 1 = cc in omega arith)
+read_taken how b line (refused r) k z e t = absurd (let z : ◌≡◌ {A = ℕ} 0 1 = cc in omega arith)
 read_taken how b line (asks l v) k z e t =
     let i : command_of l v ≡ k = cc in
     let u = taken_sent_lem (elsewhere how (v ! 0)) b (command_of l v) t in
@@ -70,10 +71,10 @@ accepted (passing {b = b} {how = how} {line = line} {lines = lines} {ks = ks} e 
 
 -- ---- questions
 
-read_answered : (b : Book) (r : Reading) (q : Question) (w : Wishes) → command_read r ≡ some (ask q w)
+read_answered : (b : Book) (r : Reading) (q : Question) (w : Wishes) → command_read r ≡ Some (ask q w)
     → (after_reading Alone b r).answer ≡ answer_to (judged b q) w
 unfolding after_reading command_read taken refusal conditions unless reply replied
-read_answered b (refused n) q w e = absurd (let z : ◌≡◌ {A = ℕ} 0 1 = cc in omega arith)
+read_answered b (refused r) q w e = absurd (let z : ◌≡◌ {A = ℕ} 0 1 = cc in omega arith)
 read_answered b (asks l v) q w e = let i : command_of l v ≡ ask q w = cc in ap (λ k. (taken b k).answer) i
 
 pub question_answered : QuestionAnswered

@@ -1,7 +1,7 @@
 -- A rule taken out with its rows and entered again under a sequence leaves the records that O leaves; under its own
 -- sequence, those that were there.
 use Prim.Native.Nat.{ℕ, ◌+◌}
-use mathlib.Core.Path.{◌≡◌, refl, ap, sym, ◌∙◌}
+use mathlib.Core.Path.{◌≡◌, ap, sym, ◌∙◌}
 use mathlib.Core.Bool.{Bool, true, false, not, ◌&&◌}
 use mathlib.Core.List.{List, [], ◌∷◌, ◌++◌, map}
 use native.Mathlib.Omega.{arith}
@@ -19,6 +19,8 @@ use Rattle.meaning.specs.Sound.{rule_fits}
 use Rattle.meaning.specs.SameBook.{SameBook}
 use Rattle.meaning.specs.Lone.{after_sent}
 use Rattle.meaning.specs.Exercise.{same_rule, out_and_in, PutBack, PutBackAnswers}
+use Rattle.meaning.specs.declared.Refusal.TheVariants.{NotFound, AlreadyHeld, Conflict}
+use Rattle.std.specs.Prelude.{None}
 use Rattle.meaning.proofs.First.{command_not_refused}
 use Rattle.meaning.proofs.Keys.{rule_key_lem, rule_self, of_key, row_key_lem}
 use Rattle.meaning.proofs.Listed.{count_less}
@@ -36,10 +38,10 @@ pub record RowsOut (b : Book) (out : List Row) (ks : List Command) (c : Book) : 
   pub parts : (p : Row → Bool) → count p b.rows ≡ count p rest + count p out
   pub next : Accepted (with_rows rest b) ks c
 
-row_once_lem : (b : Book) → Good b → (w : Row) → refusal b (delete_row w) ≡ 0 → count (is_row w) b.rows ≡ 1
+row_once_lem : (b : Book) → Good b → (w : Row) → refusal b (delete_row w) ≡ None → count (is_row w) b.rows ≡ 1
 unfolding conditions every
 row_once_lem b g w e =
-    let h = not-false (has (is_row w) b.rows) (command_not_refused b (delete_row w) refl e 7) in
+    let h = not-false (has (is_row w) b.rows) (command_not_refused b (delete_row w) e NotFound) in
     omega (arith, has_true (is_row w) b.rows h, g.row_once w)
 
 pub rows_out : (out : List Row) (b c : Book) (ks : List Command) → Good b → Accepted b (map delete_row out ++ ks) c
@@ -181,7 +183,7 @@ module _ (b : Book) (g : Good b) (r : Rule) (held : has (same_rule r) b.rules �
         let (f, e, m) = o.next in
         let (f', e', a') = m in
         let i = rows_in rows (edited (edited d (delete_rule r.type r.object r.sequence)) (add_rule day (rule_moved new r))) c a' in
-        let gone = command_not_refused d (delete_rule r.type r.object r.sequence) refl e 9 in
+        let gone = command_not_refused d (delete_rule r.type r.object r.sequence) e Conflict in
         record {
           same = record {
             types = λ p. ap (count p) i.types;
@@ -192,7 +194,7 @@ module _ (b : Book) (g : Good b) (r : Rule) (held : has (same_rule r) b.rules �
             periods = λ p. ap (count p) i.periods;
           };
           range = f';
-          free = command_not_refused (edited d (delete_rule r.type r.object r.sequence)) (add_rule day (rule_moved new r)) refl e' 8;
+          free = command_not_refused (edited d (delete_rule r.type r.object r.sequence)) (add_rule day (rule_moved new r)) e' AlreadyHeld;
         }
 
   -- under its own sequence nothing moves

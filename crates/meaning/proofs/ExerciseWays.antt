@@ -16,6 +16,7 @@ use Rattle.meaning.specs.SameBook.{SameBook}
 use Rattle.meaning.specs.Lone.{after_sent}
 use Rattle.meaning.specs.declared.Sent.{Sent}
 use Rattle.meaning.specs.Exercise.{same_rule, Way, by_reorder, by_entry, Moves, EitherWay}
+use Rattle.meaning.specs.declared.Refusal.TheVariants.{AlreadyHeld}
 use Rattle.meaning.proofs.First.{command_not_refused}
 use Rattle.meaning.proofs.Keys.{rule_key_lem}
 use Rattle.meaning.proofs.Listed.{not_so, has_map, has_without}
@@ -60,7 +61,7 @@ module _ (b : Book) (r : Rule) (new : ℕ) (lines : List (Sent × List ℕ)) (g 
     unfolding fits conditions every
     by_way (by_reorder t) =
         let (f, e, l) = accepted t in
-        let free = command_not_refused b (reorder r.type r.object r.sequence new) refl e 8 in
+        let free = command_not_refused b (reorder r.type r.object r.sequence new) e AlreadyHeld in
         record {
           good = g;
           held = held;

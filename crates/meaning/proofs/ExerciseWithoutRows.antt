@@ -12,6 +12,7 @@ use Rattle.meaning.specs.Refusals.{conditions}
 use Rattle.meaning.specs.Edits.{with_rules, edited}
 use Rattle.meaning.specs.Judging.{tests, matches, rule_applies, deciding, judged}
 use Rattle.meaning.specs.Exercise.{WithoutRowsEntered, WithoutRowsDeleted}
+use Rattle.meaning.specs.declared.Refusal.TheVariants.{AlreadyHeld, Conflict}
 use Rattle.meaning.proofs.First.{command_not_refused}
 use Rattle.meaning.proofs.Keys.{rule_self}
 use Rattle.meaning.proofs.Listed.{not_so}
@@ -47,7 +48,7 @@ pub without_rows_entered : WithoutRowsEntered
 unfolding conditions edited every deciding least
 without_rows_entered b e day r lines t q =
     let (f, z, l) = accepted t in
-    let free = command_not_refused b (add_rule day r) refl z 8 in
+    let free = command_not_refused b (add_rule day r) z AlreadyHeld in
     let none = no_rows b (good_of_sound b e).lists r.type r.object r.sequence free in
     let no : (type sign : ℕ) → rule_applies b q type sign r ≡ false =
     λ type sign. unapplied b q r.type r.object r.sequence none type sign r (rule_self r) in
@@ -59,7 +60,7 @@ pub without_rows_deleted : WithoutRowsDeleted
 unfolding conditions edited every deciding without
 without_rows_deleted b n o s lines t q =
     let (f, z, l) = accepted t in
-    let none = command_not_refused b (delete_rule n o s) refl z 9 in
+    let none = command_not_refused b (delete_rule n o s) z Conflict in
     let stays : (type sign : ℕ) (x : Rule) → rule_applies b q type sign x ≡ true → not (is_rule n o s x) ≡ true =
     λ type sign x p. ap not (not_so (is_rule n o s x) false refl (λ y. sym (unapplied b q n o s none type sign x y) ∙ p)) in
     ap (λ c. judged c q) l

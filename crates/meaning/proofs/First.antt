@@ -1,54 +1,48 @@
 -- No refusal is given exactly where no condition holds; what is not refused meets no condition, each found by its
--- number.
-use Prim.Native.Nat.{ℕ}
-use mathlib.Core.Path.{◌≡◌, refl}
-use mathlib.Core.Bool.{Bool, true, false, cond}
+-- refusal.
+use mathlib.Core.Path.{◌≡◌, refl, ap, sym}
+use mathlib.Core.Bool.{Bool, true, false, cond, false≢true}
 use mathlib.Core.List.{List, [], ◌∷◌}
-use native.Mathlib.Omega.{arith}
-use lib.Dec.{eqb, ltb}
-use borrow.Author.Tests.{ltb-true}
-use Rattle.tables.specs.Count.{every}
-use Rattle.tables.proofs.Counts.{cases, both}
+use Rattle.std.specs.Prelude.{Option, Some, None, is_some}
+use lib.Dec.{eqb}
+use Rattle.tables.proofs.Counts.{cases}
 use Rattle.meaning.specs.Records.{Book, Command}
-use Rattle.meaning.specs.Refusals.{first_of, conditions, refusal}
+use Rattle.meaning.specs.Refusals.{number_of, first_of, conditions, refusal}
+use Rattle.meaning.specs.declared.Refusal.{Refusal}
 
 -- no condition of the list holds
-abbrev pub NoneHold : List (ℕ × Bool) → Type 0
+abbrev pub NoneHold : List (Refusal × Bool) → Type 0
 NoneHold [] = Unit {0}
 NoneHold (c ∷ cs) = (c.1 ≡ false) × NoneHold cs
 
--- each condition has a number from 1 on
-abbrev pub from_one : List (ℕ × Bool) → Bool
-from_one cs = every (λ c. ltb 0 c.0) cs
+given_first : {G : Type 0} (r : Refusal) (o : Option Refusal) → cond true (Some r) o ≡ None → G
+given_first r o e = absurd (false≢true (sym (ap is_some e)))
 
-pub none_hold : (cs : List (ℕ × Bool)) → from_one cs ≡ true → first_of cs ≡ 0 → NoneHold cs
-unfolding every
-none_hold [] p e = tt
-none_hold (c ∷ cs) p e =
-    let b = both (ltb 0 c.0) (from_one cs) p in
-    cases c.1
-    (λ t. absurd (omega (arith, ltb-true 0 c.0 b.0, rw t at e)))
-    (λ t. (t, none_hold cs b.1 (rw t at e)))
+pub none_hold : (cs : List (Refusal × Bool)) → first_of cs ≡ None → NoneHold cs
+none_hold [] e = tt
+none_hold ((r, true) ∷ cs) e = given_first r (first_of cs) e
+none_hold ((r, false) ∷ cs) e = (refl, none_hold cs e)
 
-pub none_first : (cs : List (ℕ × Bool)) → NoneHold cs → first_of cs ≡ 0
+pub none_first : (cs : List (Refusal × Bool)) → NoneHold cs → first_of cs ≡ None
 none_first [] h = refl
 none_first (c ∷ cs) h = rw h.0 (none_first cs h.1)
 
--- whether the condition of that number holds
-abbrev pub condition_of : ℕ → List (ℕ × Bool) → Bool
-condition_of n [] = false
-condition_of n (c ∷ cs) = cond (eqb c.0 n) c.1 (condition_of n cs)
+-- whether the condition of that refusal holds
+abbrev pub condition_of : Refusal → List (Refusal × Bool) → Bool
+condition_of r [] = false
+condition_of r (c ∷ cs) = cond (eqb (number_of c.0) (number_of r)) c.1 (condition_of r cs)
 
-none_of : (n : ℕ) (cs : List (ℕ × Bool)) → NoneHold cs → condition_of n cs ≡ false
-none_of n [] h = refl
-none_of n (c ∷ cs) h = cases (eqb c.0 n) (λ e. rw e h.0) (λ e. rw e (none_of n cs h.1))
+none_of : (r : Refusal) (cs : List (Refusal × Bool)) → NoneHold cs → condition_of r cs ≡ false
+none_of r [] h = refl
+none_of r (c ∷ cs) h =
+    cases (eqb (number_of c.0) (number_of r)) (λ e. rw e h.0) (λ e. rw e (none_of r cs h.1))
 
--- Not refused, so condition n does not hold: for any list of conditions.
-pub not_refused : (cs : List (ℕ × Bool)) → from_one cs ≡ true → first_of cs ≡ 0 → (n : ℕ) → condition_of n cs ≡ false
-not_refused cs p e n = none_of n cs (none_hold cs p e)
+-- Not refused, so the condition of no refusal holds: for any list of conditions.
+pub not_refused : (cs : List (Refusal × Bool)) → first_of cs ≡ None → (r : Refusal) → condition_of r cs ≡ false
+not_refused cs e r = none_of r cs (none_hold cs e)
 
--- The same of a command, whose conditions have their numbers by computation.
-pub command_not_refused : (b : Book) (k : Command) → from_one (conditions b k) ≡ true → refusal b k ≡ 0
-    → (n : ℕ) → condition_of n (conditions b k) ≡ false
+-- The same of a command.
+pub command_not_refused : (b : Book) (k : Command) → refusal b k ≡ None → (r : Refusal)
+    → condition_of r (conditions b k) ≡ false
 unfolding refusal
 command_not_refused b k = not_refused (conditions b k)

@@ -4,7 +4,7 @@ use mathlib.Core.Path.{◌≡◌, refl, ap, sym, ◌∙◌}
 use mathlib.Core.Bool.{Bool, true, false, not, cond, false≢true}
 use mathlib.Core.List.{List, [], ◌∷◌, ◌++◌, append_assoc, append-nil}
 use mathlib.Core.Logic.{◌⊎◌, inl, inr, ⊎_elim}
-use mathlib.Core.Option.{Option, some, none}
+use Rattle.std.specs.Prelude.{Option, Some, None, is_some}
 use native.Mathlib.Omega.{arith}
 use lib.Dec.{eqb, leb}
 use lib.ListN.{length, get_or-append, get_or-eq_default}
@@ -13,7 +13,7 @@ use borrow.Author.Tests.{ne_eqb, eqb-true, leb-true}
 use Rattle.tables.proofs.Counts.{both}
 use Rattle.meaning.specs.Fields.{within, fields}
 use Rattle.meaning.specs.Forms.{holds, holds_all, Letter, letter_q, shape_q, shape_q_wishes, shapes}
-use Rattle.meaning.specs.Records.{◌!◌, Book, Question, command_of, question_in, ask, rejection, validation_hold, party_hold}
+use Rattle.meaning.specs.Records.{◌!◌, Book, Question, wish_of, command_of, question_in, ask, rejection, validation_hold, party_hold}
 use Rattle.meaning.specs.Reading.{Reading, refused, asks, reading}
 use Rattle.meaning.specs.Judging.{verdict, judged, named}
 use Rattle.meaning.specs.Status.{is_on, status, carried, answer_to}
@@ -70,18 +70,18 @@ record Numbers (v : List ℕ) (w : Wishes) : Type 0 where
   pub longer : length v ≡ 13 → carried w ≡ true
 
 abbrev Asks : Letter → List ℕ → Type 0
-Asks l v = (q : Question) (w : Wishes) → question_in (command_of l v) ≡ some (q, w) → Numbers v w
+Asks l v = (q : Question) (w : Wishes) → question_in (command_of l v) ≡ Some (q, w) → Numbers v w
 
 -- any other command asks nothing
 abbrev Nothing : List ℕ → Type 0
-Nothing v = (q : Question) (w : Wishes) → ◌≡◌ {A = Option (Question × Wishes)} none (some (q, w)) → Numbers v w
+Nothing v = (q : Question) (w : Wishes) → ◌≡◌ {A = Option (Question × Wishes)} None (Some (q, w)) → Numbers v w
 
 none_asked : {v : List ℕ} → Nothing v
 none_asked q w e = absurd (let z : ◌≡◌ {A = ℕ} 0 1 = cc in omega arith)
 
-abbrev default_in : Option (Question × Wishes) → ℕ
-default_in none = 0
-default_in (some a) = a.1.default
+abbrev default_in : Option (Question × Wishes) → Option Bool
+default_in None = None
+default_in (Some a) = a.1.default
 
 question_numbers : (l : Letter) (v : List ℕ) → Ranged l v → Asks l v
 unfolding shapes command_of holds
@@ -94,7 +94,8 @@ question_numbers l v r =
     edit e = none_asked
 
     -- the default of the numbers
-    default_in_lem : (q : Question) (w : Wishes) → question_in (command_of letter_q v) ≡ some (q, w) → w.default ≡ v ! 12
+    default_in_lem : (q : Question) (w : Wishes) → question_in (command_of letter_q v) ≡ Some (q, w)
+        → w.default ≡ wish_of (v ! 12)
     default_in_lem q w e = sym (ap default_in e)
 
     short : holds_all shape_q.forms v ≡ true → Asks letter_q v
@@ -103,7 +104,7 @@ question_numbers l v r =
         let z : v ! 12 ≡ 0 = get_or-eq_default v 0 {n = 12} (omega arith) in
         record {
           count = inl n;
-          shorter = λ k. ap (λ x. not (eqb x 0)) (default_in_lem q w f ∙ z);
+          shorter = λ k. ap is_some (default_in_lem q w f ∙ ap wish_of z);
           longer = λ k. absurd (omega arith);
         }
 
@@ -115,7 +116,7 @@ question_numbers l v r =
         record {
           count = inr n;
           shorter = λ k. absurd (omega arith);
-          longer = λ k. ap (λ x. not (eqb x 0)) (default_in_lem q w f) ∙ ap not (ne_eqb (v ! 12) 0 (λ y. omega (arith, y, z)));
+          longer = λ k. rw (default_in_lem q w f, ne_eqb (v ! 12) 0 (λ y. omega (arith, y, z)));
         }
 
 -- what a line that asks a question has
@@ -125,9 +126,9 @@ record Fielded (line : List ℕ) (w : Wishes) : Type 0 where
   pub count : length (fields line) ≡ suc (length v)
 
 line_numbers : (line : List ℕ) (r : Reading) (q : Question) (w : Wishes) → reading line ≡ r
-    → command_read r ≡ some (ask q w) → Fielded line w
+    → command_read r ≡ Some (ask q w) → Fielded line w
 unfolding command_read
-line_numbers line (refused n) q w z e = absurd (let y : ◌≡◌ {A = ℕ} 0 1 = cc in omega arith)
+line_numbers line (refused r) q w z e = absurd (let y : ◌≡◌ {A = ℕ} 0 1 = cc in omega arith)
 line_numbers line (asks l v) q w z e =
     let i : command_of l v ≡ ask q w = cc in
     let p = numbers_parts line l v (reading_right line l v z).0 in

@@ -11,6 +11,8 @@ use Rattle.meaning.specs.Reading.{Reading, refused, asks, reading}
 use Rattle.meaning.specs.Refusals.{refusal_sent, refusal}
 use Rattle.meaning.specs.Lone.{Step, elsewhere, taken_sent, taken, after_reading, keeps_read, keeps, step_sent, step, depository}
 use Rattle.meaning.specs.declared.Answer.TheVariants.{Refused}
+use Rattle.meaning.specs.declared.Refusal.{Refusal}
+use Rattle.meaning.specs.declared.Refusal.TheVariants.{OtherDepository}
 use Rattle.meaning.specs.declared.Sent.{Sent}
 use Rattle.meaning.specs.declared.Sent.TheVariants.{Alone}
 use Rattle.tables.proofs.Counts.{cases}
@@ -18,7 +20,7 @@ use Rattle.meaning.proofs.Names.{reading_depository}
 
 -- refusal 12 comes before all that reads the lists
 abbrev pub refused12 : Book → Step
-refused12 b = record { answer = Refused 12; book = b }
+refused12 b = record { answer = Refused OtherDepository; book = b }
 
 pub refusal_here : (e : Bool) (b : Book) (k : Command) → e ≡ false → refusal_sent e b k ≡ refusal b k
 unfolding refusal
@@ -45,7 +47,7 @@ module _ (how : Sent) (b : Book) (line : List ℕ) where
   here : (r : Reading) → reading line ≡ r → elsewhere how (depository line) ≡ false
       → after_reading how b r ≡ after_reading Alone b r
   unfolding after_reading taken
-  here (refused n) e f = refl
+  here (refused r) e f = refl
   here (asks l v) e f =
       taken_here (elsewhere how (v ! 0)) b (command_of l v)
       (ap (elsewhere how) (sym (reading_depository line l v e)) ∙ f)
@@ -57,7 +59,7 @@ module _ (how : Sent) (b : Book) (line : List ℕ) where
 
   away : (r : Reading) → reading line ≡ r → elsewhere how (depository line) ≡ true → (after_reading how b r).book ≡ b
   unfolding after_reading
-  away (refused n) e f = refl
+  away (refused r) e f = refl
   away (asks l v) e f =
       ap (λ s. s.book)
       (taken_elsewhere (elsewhere how (v ! 0)) b (command_of l v)
@@ -85,9 +87,9 @@ pub record AsAlone (how : Sent) (line : List ℕ) : Type 0 where
 abbrev pub Twelve : Sent → List ℕ → Type 0
 Twelve how line = (b : Book) → step_sent how b line ≡ refused12 b
 
-alone_unread : (how : Sent) (line : List ℕ) (n : ℕ) → reading line ≡ refused n → AsAlone how line
+alone_unread : (how : Sent) (line : List ℕ) (r : Refusal) → reading line ≡ refused r → AsAlone how line
 unfolding step step_sent after_reading keeps keeps_read
-alone_unread how line n e = record { steps = λ b. rw e; left = λ b. rw e }
+alone_unread how line r e = record { steps = λ b. rw e; left = λ b. rw e }
 
 alone_here : (how : Sent) (line : List ℕ) (l : Letter) (v : List ℕ) → reading line ≡ asks l v
     → elsewhere how (v ! 0) ≡ false → AsAlone how line
@@ -96,7 +98,7 @@ alone_here how line l v e f =
     record { steps = λ b. rw (e, f); left = λ b. rw (e, f) }
 
 pub alone_or_twelve : (how : Sent) (line : List ℕ) (r : Reading) → reading line ≡ r → AsAlone how line ⊎ Twelve how line
-alone_or_twelve how line (refused n) e = inl (alone_unread how line n e)
+alone_or_twelve how line (refused r) e = inl (alone_unread how line r e)
 alone_or_twelve how line (asks l v) e =
     cases (elsewhere how (v ! 0))
     (λ f. inr (λ b. read_sent how b line l v e ∙ taken_elsewhere (elsewhere how (v ! 0)) b (command_of l v) f))

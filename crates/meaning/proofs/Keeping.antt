@@ -3,7 +3,7 @@ use Prim.Native.Nat.{ℕ, zero, suc}
 use mathlib.Core.Path.{◌≡◌, refl, ap, sym, ◌∙◌, fun_ext}
 use mathlib.Core.Bool.{Bool, true, false, not, cond, ◌&&◌, ◌||◌, and-false, or-true, or-false, false≢true}
 use mathlib.Core.List.{[]}
-use mathlib.Core.Option.{Option, some, none}
+use Rattle.std.specs.Prelude.{Option, Some, None}
 use lib.Dec.{eqb}
 use borrow.Author.Tests.{eqb-true, eq-eqb}
 use Rattle.tables.specs.Count.{has}
@@ -26,20 +26,20 @@ whole_book b q = rw (keep_any b.types, keep_any b.rules) refl
 -- ---- what is left, unless it is cancelled
 
 is_some : {A : Type 0} → Option A → Bool
-is_some none = false
-is_some (some x) = true
+is_some None = false
+is_some (Some x) = true
 
 or_else : {A : Type 0} → A → Option A → A
-or_else x none = x
-or_else x (some y) = y
+or_else x None = x
+or_else x (Some y) = y
 
 -- the instruction in a choice between none and one
-left : {A : Type 0} (t : Bool) (x y : A) → cond t none (some x) ≡ some y → x ≡ y
+left : {A : Type 0} (t : Bool) (x y : A) → cond t None (Some x) ≡ Some y → x ≡ y
 unfolding is_some or_else
 left true x y e = absurd (false≢true (ap is_some e))
 left false x y e = ap (or_else x) e
 
-pub start_left : (b : Book) (day : ℕ) (k k' : Kept) → started b day k ≡ some k'
+pub start_left : (b : Book) (day : ℕ) (k k' : Kept) → started b day k ≡ Some k'
     → met (start_verdict b day k) (start_exempted b day k) day k ≡ k'
 unfolding started
 start_left b day k k' e = left (start_verdict b day k).rejected _ k' e
@@ -211,7 +211,7 @@ met_nothing exempt day k t h =
 pub left_as_it_was : LeftAsItWas
 unfolding started
 left_as_it_was b day k t e =
-    rw (nothing_on b day k e) (ap some (met_nothing (start_exempted b day k) day k t (none_exempted b day k e)))
+    rw (nothing_on b day k e) (ap Some (met_nothing (start_exempted b day k) day k t (none_exempted b day k e)))
 
 -- ---- what is remembered
 

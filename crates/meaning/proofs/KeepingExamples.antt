@@ -4,7 +4,7 @@
 use Prim.Native.Nat.{ℕ}
 use mathlib.Core.Path.{◌≡◌, refl}
 use mathlib.Core.List.{List, [], ◌∷◌}
-use mathlib.Core.Option.{Option, some, none}
+use Rattle.std.specs.Prelude.{Option, Some, None}
 use Rattle.tables.specs.Count.{has, keep}
 use Rattle.meaning.specs.Text.{bytes, word}
 use Rattle.meaning.specs.Records.{Book, empty, Kept, Question}
@@ -46,12 +46,12 @@ delivery security = record {
 
 -- the days since which the two holds are on after each start of day, nothing once it is cancelled
 abbrev since : Option Kept → List ℕ
-since none = []
-since (some k) = k.validating ∷ k.holding ∷ []
+since None = []
+since (Some k) = k.validating ∷ k.holding ∷ []
 
 abbrev next : Book → ℕ → Option Kept → Option Kept
-next b day none = none
-next b day (some k) = started b day k
+next b day None = None
+next b day (Some k) = started b day k
 
 pub through : Book → List ℕ → Option Kept → List (List ℕ)
 through b [] k = []
@@ -62,13 +62,13 @@ mornings = 20160331 ∷ 20160401 ∷ 20160402 ∷ 20160403 ∷ []
 
 -- A is held for validation at its entry by rule 1, stays so although rule 1 has ended, is not checked against rule 2,
 -- and is put on party hold on 3 April.
-pub example_6_a : through eurosettlement mornings (some (entered eurosettlement 1 (delivery 30)))
+pub example_6_a : through eurosettlement mornings (Some (entered eurosettlement 1 (delivery 30)))
     ≡ (20160330 ∷ 0 ∷ []) ∷ (20160330 ∷ 0 ∷ []) ∷ (20160330 ∷ 0 ∷ []) ∷ (20160330 ∷ 20160403 ∷ []) ∷ []
 unfolding through eurosettlement after entered started start_verdict start_exempted met judged scoped is_new exempted exempts passed_over is_held held_since types_which type_numbers among has keep
 example_6_a = refl
 
 -- B is held by rule 2 on 1 April, meets no rule on 2 April, and is put on party hold on 3 April.
-pub example_6_b : through eurosettlement mornings (some (entered eurosettlement 2 (delivery 31)))
+pub example_6_b : through eurosettlement mornings (Some (entered eurosettlement 2 (delivery 31)))
     ≡ (0 ∷ 0 ∷ []) ∷ (20160401 ∷ 0 ∷ []) ∷ (20160401 ∷ 0 ∷ []) ∷ (20160401 ∷ 20160403 ∷ []) ∷ []
 unfolding through eurosettlement after entered started start_verdict start_exempted met judged scoped is_new exempted exempts passed_over is_held held_since types_which type_numbers among has keep
 example_6_b = refl

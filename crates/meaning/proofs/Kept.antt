@@ -1,5 +1,6 @@
 -- A sound lone book stays sound under every accepted command, and so whatever the lines.
-use Prim.Native.Nat.{ℕ, zero, suc}
+use Prim.Native.Nat.{ℕ}
+use Rattle.std.specs.Prelude.{Option, Some, None}
 use mathlib.Core.Path.{◌≡◌, refl}
 use mathlib.Core.Bool.{true}
 use mathlib.Core.List.{List, [], ◌∷◌}
@@ -15,6 +16,8 @@ use Rattle.meaning.specs.Reading.{Reading, refused, asks, reading}
 use Rattle.meaning.specs.Lone.{unless, taken, after_reading, step, after}
 use Rattle.meaning.specs.Sound.{sound_lone}
 use Rattle.meaning.specs.declared.Sent.TheVariants.{Alone}
+use Rattle.meaning.specs.declared.Refusal.{Refusal}
+use Rattle.meaning.specs.declared.Refusal.TheVariants.{NotFound, AlreadyHeld, Conflict, QuotaFull}
 use Rattle.meaning.proofs.First.{command_not_refused}
 use Rattle.meaning.proofs.Ranges.{reading_fits}
 use Rattle.meaning.proofs.Good.{Lists, Good, good_lists, good_of_sound, sound_of_good}
@@ -25,41 +28,41 @@ use Rattle.meaning.proofs.KeptPeriods.{period_added, period_ended_lem}
 
 -- ---- every command
 
-lists_edited : (b : Book) → Lists b → (k : Command) → fits k ≡ true → refusal b k ≡ 0 → Lists (edited b k)
+lists_edited : (b : Book) → Lists b → (k : Command) → fits k ≡ true → refusal b k ≡ None → Lists (edited b k)
 unfolding conditions fits edited every
 lists_edited b g (add_type d t) f e =
-    let no = command_not_refused b (add_type d t) refl e in
-    type_added b g t f (no 8) (leb-false type_quota (length b.types) (no 10))
+    let no = command_not_refused b (add_type d t) e in
+    type_added b g t f (no AlreadyHeld) (leb-false type_quota (length b.types) (no QuotaFull))
 lists_edited b g (end_type d n o last) f e =
-    type_ended_lem b g n o last f (command_not_refused b (end_type d n o last) refl e 9)
+    type_ended_lem b g n o last f (command_not_refused b (end_type d n o last) e Conflict)
 lists_edited b g (add_rule d r) f e =
-    let no = command_not_refused b (add_rule d r) refl e in
-    rule_added b g r f (not-false (has (is_type r.type r.object) b.types) (no 7)) (no 8)
-    (leb-false rule_quota (length b.rules) (no 10))
+    let no = command_not_refused b (add_rule d r) e in
+    rule_added b g r f (not-false (has (is_type r.type r.object) b.types) (no NotFound)) (no AlreadyHeld)
+    (leb-false rule_quota (length b.rules) (no QuotaFull))
 lists_edited b g (reorder n o s new) f e =
-    reordered n o s new b g f (command_not_refused b (reorder n o s new) refl e 8)
-lists_edited b g (delete_rule n o s) f e = rule_deleted b g n o s (command_not_refused b (delete_rule n o s) refl e 9)
+    reordered n o s new b g f (command_not_refused b (reorder n o s new) e AlreadyHeld)
+lists_edited b g (delete_rule n o s) f e = rule_deleted b g n o s (command_not_refused b (delete_rule n o s) e Conflict)
 lists_edited b g (add_row w) f e =
-    let no = command_not_refused b (add_row w) refl e in
-    row_added b g w f (not-false (has (is_rule w.type w.object w.sequence) b.rules) (no 7)) (no 8) (no 9)
-    (leb-false row_quota (length b.rows) (no 10))
+    let no = command_not_refused b (add_row w) e in
+    row_added b g w f (not-false (has (is_rule w.type w.object w.sequence) b.rules) (no NotFound)) (no AlreadyHeld) (no Conflict)
+    (leb-false row_quota (length b.rows) (no QuotaFull))
 lists_edited b g (delete_row w) f e = row_deleted b g w
 lists_edited b g (add_period d p) f e =
-    let no = command_not_refused b (add_period d p) refl e in
-    period_added b g p f (no 8) (leb-false period_quota (length b.periods) (no 10))
+    let no = command_not_refused b (add_period d p) e in
+    period_added b g p f (no AlreadyHeld) (leb-false period_quota (length b.periods) (no QuotaFull))
 lists_edited b g (end_period d κ n o first last) f e =
-    period_ended_lem b g κ n o first last f (command_not_refused b (end_period d κ n o first last) refl e 9)
+    period_ended_lem b g κ n o first last f (command_not_refused b (end_period d κ n o first last) e Conflict)
 lists_edited b g (ask q w) f e = g
 
-pub good_edited : (b : Book) → Good b → (k : Command) → fits k ≡ true → refusal b k ≡ 0 → Good (edited b k)
+pub good_edited : (b : Book) → Good b → (k : Command) → fits k ≡ true → refusal b k ≡ None → Good (edited b k)
 good_edited b g k f e = good_lists (edited b k) (lists_edited b g.lists k f e)
 
 -- ---- every line
 
-unless_good : (b : Book) → Good b → (n : ℕ) (k : Command) → (n ≡ 0 → Good (edited b k)) → Good (unless n b k).book
+unless_good : (b : Book) → Good b → (o : Option Refusal) (k : Command) → (o ≡ None → Good (edited b k)) → Good (unless o b k).book
 unfolding unless
-unless_good b g zero k h = h refl
-unless_good b g (suc n) k h = g
+unless_good b g None k h = h refl
+unless_good b g (Some r) k h = g
 
 pub taken_good : (b : Book) → Good b → (k : Command) → fits k ≡ true → Good (taken b k).book
 unfolding taken refusal
@@ -68,7 +71,7 @@ taken_good b g k f = unless_good b g (refusal b k) k (good_edited b g k f)
 after_good : (b : Book) → Good b → (r : Reading)
     → ((l : Letter) (v : List ℕ) → r ≡ asks l v → fits (command_of l v) ≡ true) → Good (after_reading Alone b r).book
 unfolding after_reading taken
-after_good b g (refused n) h = g
+after_good b g (refused r) h = g
 after_good b g (asks l v) h = taken_good b g (command_of l v) (h l v refl)
 
 -- A sound lone book stays sound, whatever the line.

@@ -3,7 +3,7 @@ use Prim.Native.Nat.{ℕ, ◌<◌}
 use mathlib.Core.Path.{◌≡◌, refl, ap, ap₂, sym, ◌∙◌}
 use mathlib.Core.Bool.{Bool, true, false, not, cond, ◌&&◌, and-false, or-true}
 use mathlib.Core.List.{List, ◌∷◌}
-use mathlib.Core.Option.{some}
+use Rattle.std.specs.Prelude.{Some}
 use lib.Dec.{eqb}
 use lib.ListN.{length}
 use borrow.Author.Tests.{eqb-true, not-true}
@@ -129,7 +129,7 @@ module _ (b : Book) (fit : every type_fits b.types ≡ true) {ks : List Kept} (g
       (met_fits (judged b q) (exempted b q) q.day (fresh reference q) f d (no_hold b q fit)) n room
 
   -- what is left of an instruction is in its range, and bears its reference
-  started_fits : (day : ℕ) → holds day_form day ≡ true → (k k' : Kept) → kept_fits k ≡ true → started b day k ≡ some k'
+  started_fits : (day : ℕ) → holds day_form day ≡ true → (k k' : Kept) → kept_fits k ≡ true → started b day k ≡ Some k'
       → kept_fits k' ≡ true
   unfolding start_verdict scoped
   started_fits day d k k' f e =
@@ -137,7 +137,7 @@ module _ (b : Book) (fit : every type_fits b.types ≡ true) {ks : List Kept} (g
       ∙ met_fits (start_verdict b day k) (start_exempted b day k) day k f d
       (no_hold (scoped (at_start b day k) b) (asking day k) (every_keep type_fits _ b.types fit))
 
-  started_reference : (day : ℕ) (k k' : Kept) → started b day k ≡ some k' → k.reference ≡ k'.reference
+  started_reference : (day : ℕ) (k k' : Kept) → started b day k ≡ Some k' → k.reference ≡ k'.reference
   unfolding met
   started_reference day k k' e = ap (λ x. x.reference) (start_left b day k k' e)
 

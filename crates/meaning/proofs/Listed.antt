@@ -4,7 +4,7 @@ use Prim.Native.Nat.{ℕ, ◌≤◌, ◌<◌}
 use mathlib.Core.Path.{◌≡◌, refl, ap, sym, ◌∙◌}
 use mathlib.Core.Bool.{Bool, true, false, cond, not, ◌&&◌, or-true, false≢true}
 use mathlib.Core.List.{List, ◌∷◌}
-use mathlib.Core.Option.{Option, some}
+use Rattle.std.specs.Prelude.{Option, Some}
 use native.Mathlib.Omega.{arith}
 use lib.Dec.{leb}
 use lib.ListN.{length}
@@ -44,10 +44,10 @@ module _ {R : Type 0} where
       (omega (arith, has_true p l h, count_less p (λ x. not (q x) && p x) l (λ x e. rw (f x e, e)))))
 
   -- where none of the list passes n
-  module _ (n p q : R → Bool) (l : List R) (none : has n l ≡ false)
+  module _ (n p q : R → Bool) (l : List R) (None : has n l ≡ false)
       (f : (x : R) → n x ≡ false → p x ≡ true → q x ≡ true) where
     each_not : every (λ x. not (n x)) l ≡ true
-    each_not = every_none n l (has_false n l none)
+    each_not = every_none n l (has_false n l None)
 
     pub every_where : every p l ≡ true → every q l ≡ true
     every_where h =
@@ -147,8 +147,8 @@ module _ {R : Type 0} {k : Kind R} {l : List R} (g : Listed k l) where
 
   -- where what g leaves of a record is in its range and like no record that the record was not like
   module _ (g' : R → Option R)
-      (fit : (x y : R) → k.fits x ≡ true → g' x ≡ some y → k.fits y ≡ true)
-      (one : (x y z w : R) → g' x ≡ some y → g' z ≡ some w → k.alike y w ≡ true → k.alike x z ≡ true) where
+      (fit : (x y : R) → k.fits x ≡ true → g' x ≡ Some y → k.fits y ≡ true)
+      (one : (x y z w : R) → g' x ≡ Some y → g' z ≡ Some w → k.alike y w ≡ true → k.alike x z ≡ true) where
     fit_left : (x : R) → k.fits x ≡ true → every_left k.fits (g' x) ≡ true
     fit_left x f = every_left_lem k.fits (g' x) (λ y e. fit x y f e)
 

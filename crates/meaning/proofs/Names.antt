@@ -3,7 +3,7 @@ use Prim.Native.Nat.{ℕ, ◌+◌, ◌*◌, ◌-◌, ◌≤◌}
 use mathlib.Core.Path.{◌≡◌, refl, ap}
 use mathlib.Core.Bool.{Bool, true, false, ◌&&◌, false≢true}
 use mathlib.Core.List.{List, [], ◌∷◌, foldl}
-use mathlib.Core.Option.{some}
+use Rattle.std.specs.Prelude.{Some}
 use native.Mathlib.Omega.{arith}
 use lib.Dec.{eqb, leb, ltb}
 use lib.ListN.{get_or}
@@ -34,7 +34,7 @@ grows : (cs : List ℕ) (n : ℕ) → n ≤ foldl (λ n c. 10 * n + (c - 48)) n 
 grows [] n = omega arith
 grows (c ∷ cs) n = omega (arith, grows cs (10 * n + (c - 48)))
 
-one_digit : (f : List ℕ) (n : ℕ) → read csd_form f ≡ some n → f ≡ (48 + n) ∷ []
+one_digit : (f : List ℕ) (n : ℕ) → read csd_form f ≡ Some n → f ≡ (48 + n) ∷ []
 unfolding read
 one_digit [] n e = absurd (false≢true (given_some (is_number [] && within 1 8 (decimal [])) (decimal []) n e).0)
 one_digit (c ∷ []) n e =
@@ -77,7 +77,7 @@ csd_first_lem : (s : Shape) → In s shapes → csd_first s.forms ≡ true
 unfolding shapes every csd_first is_csd
 csd_first_lem s i = every_row (λ s. csd_first s.forms) shapes s refl i
 
-first_read_lem : (φs : List Form) (fs : List (List ℕ)) (v : List ℕ) → csd_first φs ≡ true → read_all φs fs ≡ some v → get_or fs 0 [] ≡ (48 + v ! 0) ∷ []
+first_read_lem : (φs : List Form) (fs : List (List ℕ)) (v : List ℕ) → csd_first φs ≡ true → read_all φs fs ≡ Some v → get_or fs 0 [] ≡ (48 + v ! 0) ∷ []
 unfolding csd_first read_all
 first_read_lem [] fs v t e = absurd (false≢true t)
 first_read_lem (φ ∷ φs) [] v t e = absurd (let z : ◌≡◌ {A = ℕ} 0 1 = cc in omega arith)

@@ -1,10 +1,10 @@
 -- The order of a lone book's records carries no meaning: books with the same records give the same answers, line by
 -- line and for whole lists.
-use Prim.Native.Nat.{ℕ, zero, suc}
+use Prim.Native.Nat.{ℕ}
 use mathlib.Core.Path.{◌≡◌, refl, ap, ap₂, sym, subst}
 use mathlib.Core.Bool.{Bool, true, false}
 use mathlib.Core.List.{List, [], ◌∷◌}
-use mathlib.Core.Option.{Option, some, none}
+use Rattle.std.specs.Prelude.{Option, Some, None}
 use Rattle.tables.proofs.Lists.{same_length, same_cons, same_without, same_change}
 use Rattle.meaning.specs.Records.{◌!◌, Book, Question, Command, command_of, question_in, add_type, end_type, add_rule, reorder, delete_rule, add_row, delete_row, add_period, end_period, ask}
 use Rattle.meaning.specs.Reading.{Reading, refused, asks, reading}
@@ -14,6 +14,7 @@ use Rattle.meaning.specs.Edits.{type_until, rule_moved, row_moved, period_until,
 use Rattle.meaning.specs.Lone.{Step, elsewhere, replied, reply, unless, taken_sent, after_reading, step_sent, step, answers_sent, told, answers_from}
 use Rattle.meaning.specs.SameBook.{SameBook}
 use Rattle.meaning.proofs.OrderJudged.{types_has, rules_has, rows_has, periods_has, judged_same}
+use Rattle.meaning.specs.declared.Refusal.{Refusal}
 use Rattle.meaning.specs.declared.Wishes.{Wishes}
 use Rattle.meaning.specs.Status.{answer_to}
 use Rattle.meaning.specs.declared.Sent.{Sent}
@@ -74,8 +75,8 @@ module _ (b c : Book) (s : SameBook b c) where
 
   replied_same : (q : Option (Question × Wishes)) → replied b q ≡ replied c q
   unfolding replied
-  replied_same none = refl
-  replied_same (some (q, w)) = ap (λ v. answer_to v w) (judged_same b c s q)
+  replied_same None = refl
+  replied_same (Some (q, w)) = ap (λ v. answer_to v w) (judged_same b c s q)
 
   reply_same : (k : Command) → reply b k ≡ reply c k
   unfolding reply
@@ -87,23 +88,24 @@ pub record SameStep (s t : Step) : Type 0 where
   pub answer : s.answer ≡ t.answer
   pub book : SameBook s.book t.book
 
-unless_same : (b c : Book) → SameBook b c → (n : ℕ) (k : Command) → SameStep (unless n b k) (unless n c k)
+unless_same : (b c : Book) → SameBook b c → (o : Option Refusal) (k : Command)
+    → SameStep (unless o b k) (unless o c k)
 unfolding unless
-unless_same b c s zero k = record { answer = reply_same b c s k; book = edited_same b c s k }
-unless_same b c s (suc n) k = record { answer = refl; book = s }
+unless_same b c s None k = record { answer = reply_same b c s k; book = edited_same b c s k }
+unless_same b c s (Some r) k = record { answer = refl; book = s }
 
 -- told whether the line names another depository than its batch
 taken_same : (b c : Book) → SameBook b c → (e : Bool) (k : Command) → SameStep (taken_sent e b k) (taken_sent e c k)
 unfolding taken_sent refusal
 taken_same b c s true k = record { answer = refl; book = s }
 taken_same b c s false k =
-    subst (λ n. SameStep (unless n b k) (unless (refusal c k) c k)) (sym (refusal_same b c s k))
+    subst (λ o. SameStep (unless o b k) (unless (refusal c k) c k)) (sym (refusal_same b c s k))
     (unless_same b c s (refusal c k) k)
 
 after_same : (how : Sent) (b c : Book) → SameBook b c → (r : Reading)
     → SameStep (after_reading how b r) (after_reading how c r)
 unfolding after_reading
-after_same how b c s (refused n) = record { answer = refl; book = s }
+after_same how b c s (refused r) = record { answer = refl; book = s }
 after_same how b c s (asks l v) = taken_same b c s (elsewhere how (v ! 0)) (command_of l v)
 
 pub sent_same : (how : Sent) (b c : Book) → SameBook b c → (line : List ℕ)

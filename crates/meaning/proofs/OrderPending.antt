@@ -2,7 +2,7 @@
 use Prim.Native.Nat.{ℕ}
 use mathlib.Core.Path.{◌≡◌, ap, ap₂, ◌∙◌, fun_ext}
 use mathlib.Core.Bool.{true, not, cond, ◌&&◌}
-use mathlib.Core.Option.{some, none}
+use Rattle.std.specs.Prelude.{Some, None}
 use lib.Dec.{eqb}
 use Rattle.tables.specs.Count.{has}
 use Rattle.tables.proofs.Lists.{same_keep}
@@ -60,4 +60,4 @@ module _ (b c : Book) (s : SameBook b c) (day : ℕ) (k : Kept) where
 
   pub started_same : started b day k ≡ started c day k
   unfolding started
-  started_same = ap₂ (λ v e. cond v.rejected none (some (met v e day k))) verdict_alike exempted_alike
+  started_same = ap₂ (λ v e. cond v.rejected None (Some (met v e day k))) verdict_alike exempted_alike

@@ -4,7 +4,7 @@ use Prim.Native.Nat.{ℕ, zero, suc, ◌+◌, ◌*◌, ◌/◌, ◌%◌, ◌≤�
 use mathlib.Core.Path.{◌≡◌, refl, ap, sym}
 use mathlib.Core.Bool.{Bool, true, false, ◌&&◌, ◌||◌, or-true, false≢true}
 use mathlib.Core.List.{List, [], ◌∷◌, foldl}
-use mathlib.Core.Option.{Option, some, none}
+use Rattle.std.specs.Prelude.{Option, Some, None}
 use native.Mathlib.Omega.{arith}
 use lib.Dec.{eqb, leb, ltb}
 use lib.ListN.{length, get_or}
@@ -14,6 +14,8 @@ use Rattle.tables.proofs.Counts.{cases, both, neither, and_r}
 use Rattle.meaning.specs.Text.{same, word_place, word, decimal}
 use Rattle.meaning.specs.Fields.{within, is_capital, well_made, fields}
 use Rattle.meaning.specs.Forms.{Form, up_to, code, day, letters, one_of, optional, is_number, is_code, is_day, is_word, given, read, holds, holds_all, Letter, Shape, shape_t, shape_e, shape_r, shape_o, shape_m, shape_a, shape_z, shapes, has_letter, has_length, first_shape}
+use Rattle.meaning.specs.declared.Refusal.{Refusal}
+use Rattle.meaning.specs.declared.Refusal.TheVariants.{BadLine, NoLetter, FieldCount, BadField}
 use Rattle.meaning.specs.Reading.{together, read_all, Reading, refused, asks, by_numbers, by_shape, by_fields, numbers_read, unless_wrong, reading}
 use Rattle.meaning.specs.Refusals.{wrong}
 use Rattle.meaning.specs.Records.{◌!◌, command_of}
@@ -21,7 +23,7 @@ use Rattle.meaning.specs.Sound.{days_fit, key_fits, type_fits, rule_fits, row_fi
 use Rattle.meaning.specs.Edits.{fits}
 use Rattle.meaning.proofs.Shapes.{In, Ranged, by_rows, first_found}
 
-pub given_some : (t : Bool) (n m : ℕ) → given t n ≡ some m → (t ≡ true) × (n ≡ m)
+pub given_some : (t : Bool) (n m : ℕ) → given t n ≡ Some m → (t ≡ true) × (n ≡ m)
 given_some true n m e = (refl, cc)
 given_some false n m e = absurd (let z : ◌≡◌ {A = ℕ} 0 1 = cc in omega arith)
 
@@ -48,7 +50,7 @@ word_place_low f (w ∷ ws) = cases (same f w) (λ e. rw e (omega arith)) (λ e.
 or_l : (s t : Bool) → s ≡ true → (s || t) ≡ true
 or_l s t e = rw e
 
-pub read_holds : (φ : Form) (f : List ℕ) (n : ℕ) → read φ f ≡ some n → holds φ n ≡ true
+pub read_holds : (φ : Form) (f : List ℕ) (n : ℕ) → read φ f ≡ Some n → holds φ n ≡ true
 unfolding read holds
 read_holds (up_to m) f n e =
     let g = given_some (is_number f && within 1 m (decimal f)) (decimal f) n e in
@@ -72,12 +74,12 @@ read_holds (optional φ) f n e =
     (λ z. or_l (eqb n 0) (holds φ n) (eq-eqb n 0 (sym (given_some true 0 n (rw z at e)).1)))
     (λ z. rw (read_holds φ f n (rw z at e)) (or-true (eqb n 0)))
 
-pub together_some : (a : Option ℕ) (b : Option (List ℕ)) (ns : List ℕ) {G : Type 0} → together a b ≡ some ns → ((m : ℕ) (ms : List ℕ) → a ≡ some m → b ≡ some ms → ns ≡ m ∷ ms → G) → G
-together_some none b ns e k = absurd (let z : ◌≡◌ {A = ℕ} 0 1 = cc in omega arith)
-together_some (some m) none ns e k = absurd (let z : ◌≡◌ {A = ℕ} 0 1 = cc in omega arith)
-together_some (some m) (some ms) ns e k = k m ms refl refl (cc)
+pub together_some : (a : Option ℕ) (b : Option (List ℕ)) (ns : List ℕ) {G : Type 0} → together a b ≡ Some ns → ((m : ℕ) (ms : List ℕ) → a ≡ Some m → b ≡ Some ms → ns ≡ m ∷ ms → G) → G
+together_some None b ns e k = absurd (let z : ◌≡◌ {A = ℕ} 0 1 = cc in omega arith)
+together_some (Some m) None ns e k = absurd (let z : ◌≡◌ {A = ℕ} 0 1 = cc in omega arith)
+together_some (Some m) (Some ms) ns e k = k m ms refl refl (cc)
 
-pub read_all_holds : (φs : List Form) (fs : List (List ℕ)) (ns : List ℕ) → read_all φs fs ≡ some ns → holds_all φs ns ≡ true
+pub read_all_holds : (φs : List Form) (fs : List (List ℕ)) (ns : List ℕ) → read_all φs fs ≡ Some ns → holds_all φs ns ≡ true
 unfolding read_all holds_all
 read_all_holds [] fs ns e = let z : ns ≡ [] = cc in rw z
 read_all_holds (φ ∷ φs) [] ns e = absurd (let z : ◌≡◌ {A = ℕ} 0 1 = cc in omega arith)
@@ -173,8 +175,8 @@ command_fits l v r =
 
 -- ---- lines
 
-no_reading : {G : Type 0} (n : ℕ) (l : Letter) (v : List ℕ) → refused n ≡ asks l v → G
-no_reading n l v e = absurd (let z : ◌≡◌ {A = ℕ} 0 1 = cc in omega arith)
+no_reading : {G : Type 0} (r : Refusal) (l : Letter) (v : List ℕ) → refused r ≡ asks l v → G
+no_reading r l v e = absurd (let z : ◌≡◌ {A = ℕ} 0 1 = cc in omega arith)
 
 -- What a line that is read has: a first field, which is the letter of a row of the table, and fields after it that give
 -- its numbers by the row's forms.
@@ -187,22 +189,22 @@ pub record Parts (line : List ℕ) (l : Letter) (v : List ℕ) : Type 0 where
   pub letter : row.letter ≡ l
   pub first : has_letter head row ≡ true
   pub count : has_length (length rest) row ≡ true
-  pub numbers : read_all row.forms rest ≡ some v
+  pub numbers : read_all row.forms rest ≡ Some v
 
-by_numbers_lem : (l' l : Letter) (o : Option (List ℕ)) (v : List ℕ) → by_numbers l' o ≡ asks l v → (l' ≡ l) × (o ≡ some v)
+by_numbers_lem : (l' l : Letter) (o : Option (List ℕ)) (v : List ℕ) → by_numbers l' o ≡ asks l v → (l' ≡ l) × (o ≡ Some v)
 unfolding by_numbers
-by_numbers_lem l' l none v e = no_reading 5 l v e
-by_numbers_lem l' l (some v') v e = let x : l' ≡ l = cc in let y : v' ≡ v = cc in (x, ap some y)
+by_numbers_lem l' l None v e = no_reading BadField l v e
+by_numbers_lem l' l (Some v') v e = let x : l' ≡ l = cc in let y : v' ≡ v = cc in (x, ap Some y)
 
 by_shape_lem : {G : Type 0} (o : Option Shape) (l : Letter) (fs : List (List ℕ)) (v : List ℕ) → by_shape o fs ≡ asks l v
-    → ((s : Shape) → o ≡ some s → s.letter ≡ l → read_all s.forms fs ≡ some v → G) → G
+    → ((s : Shape) → o ≡ Some s → s.letter ≡ l → read_all s.forms fs ≡ Some v → G) → G
 unfolding by_shape
-by_shape_lem none l fs v e k = no_reading 4 l v e
-by_shape_lem (some s) l fs v e k = let p = by_numbers_lem s.letter l (read_all s.forms fs) v e in k s refl p.0 p.1
+by_shape_lem None l fs v e k = no_reading FieldCount l v e
+by_shape_lem (Some s) l fs v e k = let p = by_numbers_lem s.letter l (read_all s.forms fs) v e in k s refl p.0 p.1
 
 by_fields_lem : (line : List ℕ) (fs : List (List ℕ)) (l : Letter) (v : List ℕ) → fields line ≡ fs → by_fields fs ≡ asks l v → Parts line l v
 unfolding by_fields
-by_fields_lem line [] l v c e = no_reading 3 l v e
+by_fields_lem line [] l v c e = no_reading NoLetter l v e
 by_fields_lem line (f ∷ fs) l v c e =
     cases (has (has_letter f) shapes)
     (λ t.
@@ -211,12 +213,12 @@ by_fields_lem line (f ∷ fs) l v c e =
     let p = first_found (λ s. has_letter f s && has_length (length fs) s) shapes s o in
     let d = both (has_letter f s) (has_length (length fs) s) p.0 in
     record { head = f; rest = fs; cut = c; row = s; listed = p.1; letter = a; first = d.0; count = d.1; numbers = b }))
-    (λ t. no_reading 3 l v (rw t at e))
+    (λ t. no_reading NoLetter l v (rw t at e))
 
 pub numbers_parts : (line : List ℕ) (l : Letter) (v : List ℕ) → numbers_read line ≡ asks l v → Parts line l v
 unfolding numbers_read
 numbers_parts line l v e =
-    cases (well_made line) (λ t. by_fields_lem line (fields line) l v refl (rw t at e)) (λ t. no_reading 2 l v (rw t at e))
+    cases (well_made line) (λ t. by_fields_lem line (fields line) l v refl (rw t at e)) (λ t. no_reading BadLine l v (rw t at e))
 
 -- Its numbers are in their forms' ranges.
 pub numbers_ranged : (line : List ℕ) (l : Letter) (v : List ℕ) → numbers_read line ≡ asks l v → Ranged l v
@@ -226,10 +228,10 @@ numbers_ranged line l v e =
 
 right_numbers : (y : Reading) (l : Letter) (v : List ℕ) → unless_wrong y ≡ asks l v → (y ≡ asks l v) × (wrong (command_of l v) ≡ false)
 unfolding unless_wrong
-right_numbers (refused n) l v e = no_reading n l v e
+right_numbers (refused r) l v e = no_reading r l v e
 right_numbers (asks l' v') l v e =
     cases (wrong (command_of l' v'))
-    (λ w. no_reading 5 l v (rw w at e))
+    (λ w. no_reading BadField l v (rw w at e))
     (λ w.
     let f = rw w at e in
     let x : l' ≡ l = cc in

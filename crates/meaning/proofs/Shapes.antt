@@ -5,7 +5,7 @@ use mathlib.Core.Path.{◌≡◌}
 use mathlib.Core.Bool.{Bool, true}
 use mathlib.Core.List.{List, [], ◌∷◌}
 use mathlib.Core.Logic.{◌⊎◌, inl, inr, ⊎_elim}
-use mathlib.Core.Option.{some}
+use Rattle.std.specs.Prelude.{Some}
 use native.Mathlib.Omega.{arith}
 use Rattle.tables.specs.Count.{every}
 use Rattle.tables.proofs.Counts.{cases, both}
@@ -36,7 +36,7 @@ module _ {R : Type 0} where
 
 -- ---- the table of shapes
 
-pub first_found : (p : Shape → Bool) (l : List Shape) (s : Shape) → first_shape p l ≡ some s → (p s ≡ true) × In s l
+pub first_found : (p : Shape → Bool) (l : List Shape) (s : Shape) → first_shape p l ≡ Some s → (p s ≡ true) × In s l
 unfolding first_shape In
 first_found p [] s e = absurd (let z : ◌≡◌ {A = ℕ} 0 1 = cc in omega arith)
 first_found p (x ∷ l) s e =

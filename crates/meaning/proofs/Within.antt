@@ -1,19 +1,22 @@
 -- When a rule's period leaves its type's, and which line is refused for it.
 use Prim.Native.Nat.{ℕ}
-use mathlib.Core.Path.{◌≡◌, refl, sym, ◌∙◌}
+use Rattle.std.specs.Prelude.{Some}
+use mathlib.Core.Path.{◌≡◌, refl, ap, sym, ◌∙◌}
 use mathlib.Core.Bool.{Bool, true, false, not, ◌&&◌, false≢true}
 use mathlib.Core.List.{List, [], ◌∷◌}
 use native.Mathlib.Omega.{arith}
-use lib.Dec.{leb, ltb, eqb}
+use lib.Dec.{leb, ltb}
 use lib.ListN.{length}
-use borrow.Author.Tests.{ltb-false, le-ltb, leb-true, le-leb, not-true, eq-eqb}
+use borrow.Author.Tests.{ltb-false, le-ltb, leb-true, le-leb, not-true}
 use Rattle.tables.specs.Count.{has, every}
 use Rattle.tables.proofs.Counts.{cases, both, neither}
 use Rattle.meaning.specs.Forms.{letter_t, letter_e, letter_r, letter_o, letter_d, letter_m, letter_n, letter_a, letter_z, letter_q}
 use Rattle.meaning.specs.Records.{Book, Command, command_of, rule_quota}
 use Rattle.meaning.specs.Keys.{is_type, is_rule}
-use Rattle.meaning.specs.Refusals.{first_of, outside, type_outside, leaves, conditions, refusal}
+use Rattle.meaning.specs.Refusals.{first_of, is_given, outside, type_outside, leaves, conditions, refusal}
 use Rattle.meaning.specs.Judging.{covers}
+use Rattle.meaning.specs.declared.Refusal.{Refusal}
+use Rattle.meaning.specs.declared.Refusal.TheVariants.{TooEarly, NotFound, AlreadyHeld, QuotaFull, LeavesType}
 use Rattle.meaning.specs.Within.{LeavesByDays, Thirteen, OnlyR, WhateverTypes, EndsUnderRules}
 
 -- ---- by days
@@ -52,7 +55,9 @@ leaves_by_days r t e low = record {
 
 -- of the five conditions of R
 thirteen_first : (early typed held left full : Bool)
-    → eqb (first_of ((6, early) ∷ (7, not typed) ∷ (8, held) ∷ (13, left) ∷ (10, full) ∷ [])) 13
+    → is_given LeavesType
+    (first_of
+    ((TooEarly, early) ∷ (NotFound, not typed) ∷ (AlreadyHeld, held) ∷ (LeavesType, left) ∷ (QuotaFull, full) ∷ []))
     ≡ (not early && typed && not held && left)
 thirteen_first true typed held left full = refl
 thirteen_first false false held left full = refl
@@ -68,20 +73,20 @@ thirteen b day r =
     (has (is_rule r.type r.object r.sequence) b.rules) (has (leaves r) b.types)
     (leb rule_quota (length b.rules))
 
--- a number that no condition has is not given
-not_numbered : (n : ℕ) (cs : List (ℕ × Bool)) → every (λ c. not (eqb c.0 n)) cs ≡ true → first_of cs ≡ n → n ≡ 0
+-- a refusal that no condition has is not given
+not_given : (r : Refusal) (cs : List (Refusal × Bool)) → every (λ c. not (is_given r (Some c.0))) cs ≡ true
+    → is_given r (first_of cs) ≡ false
 unfolding every
-not_numbered n [] h e = sym e
-not_numbered n (c ∷ cs) h e =
-    let b = both (not (eqb c.0 n)) (every (λ c. not (eqb c.0 n)) cs) h in
-    cases c.1
-    (λ t. absurd (false≢true (sym (not-true (eqb c.0 n) b.0) ∙ eq-eqb c.0 n (rw t at e))))
-    (λ t. not_numbered n cs b.1 (rw t at e))
+not_given r [] h = refl
+not_given r (c ∷ cs) h =
+    let b = both (not (is_given r (Some c.0))) (every (λ c. not (is_given r (Some c.0))) cs) h in
+    cases c.1 (λ t. rw t (not-true (is_given r (Some c.0)) b.0)) (λ t. rw t (not_given r cs b.1))
 
 module _ (b : Book) (k : Command) where
-  not_thirteen : every (λ c. not (eqb c.0 13)) (conditions b k) ≡ true → refusal b k ≡ 13 → ⊥
+  not_thirteen : every (λ c. not (is_given LeavesType (Some c.0))) (conditions b k) ≡ true
+      → refusal b k ≡ Some LeavesType → ⊥
   unfolding refusal
-  not_thirteen h e = omega (arith, not_numbered 13 (conditions b k) h e)
+  not_thirteen h e = false≢true (sym (not_given LeavesType (conditions b k) h) ∙ ap (is_given LeavesType) e)
 
 pub only_r : OnlyR
 unfolding conditions every command_of

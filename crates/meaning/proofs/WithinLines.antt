@@ -1,6 +1,7 @@
 -- Whatever lines are sent, every rule lies within its type, unless one of them is an E; and a sound book in which one
 -- does not.
-use Prim.Native.Nat.{ℕ, zero, suc}
+use Prim.Native.Nat.{ℕ}
+use Rattle.std.specs.Prelude.{Option, Some, None}
 use mathlib.Core.Path.{◌≡◌, refl, ap, ap₂, sym, ◌∙◌, fun_ext}
 use mathlib.Core.Bool.{Bool, true, false, not, ◌&&◌, false≢true}
 use mathlib.Core.List.{List, [], ◌∷◌}
@@ -19,6 +20,8 @@ use Rattle.meaning.specs.SameBook.{SameBook}
 use Rattle.meaning.specs.Sound.{sound_lone}
 use Rattle.meaning.specs.Within.{holds_rule, all_within, is_e, sends_e, some_e, StaysWithin, WithinAlone, shortened_lines, SoundOutside}
 use Rattle.meaning.specs.declared.Sent.{Sent}
+use Rattle.meaning.specs.declared.Refusal.{Refusal}
+use Rattle.meaning.specs.declared.Refusal.TheVariants.{NotFound, LeavesType}
 use Rattle.meaning.proofs.First.{command_not_refused}
 use Rattle.meaning.proofs.Listed.{every_cons, has_more, has_where, every_change}
 use Rattle.meaning.proofs.HowSent.{taken_here, taken_elsewhere}
@@ -31,19 +34,19 @@ unfolding holds_rule
 not_left r t e f = ap₂ (λ a c. a && not c) e f
 
 -- a rule that is not refused 7 or 13 lies within its type
-added_within : (b : Book) (day : ℕ) (r : Rule) → refusal b (add_rule day r) ≡ 0 → has (holds_rule r) b.types ≡ true
+added_within : (b : Book) (day : ℕ) (r : Rule) → refusal b (add_rule day r) ≡ None → has (holds_rule r) b.types ≡ true
 unfolding conditions every
 added_within b day r e =
-    let no = command_not_refused b (add_rule day r) refl e in
-    has_where (leaves r) (is_type r.type r.object) (holds_rule r) b.types (no 13) (λ t n z. not_left r t z n)
-    (not-false (has (is_type r.type r.object) b.types) (no 7))
+    let no = command_not_refused b (add_rule day r) e in
+    has_where (leaves r) (is_type r.type r.object) (holds_rule r) b.types (no LeavesType) (λ t n z. not_left r t z n)
+    (not-false (has (is_type r.type r.object) b.types) (no NotFound))
 
 module _ (b : Book) (h : all_within b ≡ true) where
   type_added : (t : TypeRecord) → all_within (with_types (t ∷ b.types) b) ≡ true
   unfolding all_within
   type_added t = every_map _ _ b.rules h (λ r. has_more (holds_rule r) t b.types)
 
-  rule_added : (day : ℕ) (r : Rule) → refusal b (add_rule day r) ≡ 0 → all_within (with_rules (r ∷ b.rules) b) ≡ true
+  rule_added : (day : ℕ) (r : Rule) → refusal b (add_rule day r) ≡ None → all_within (with_rules (r ∷ b.rules) b) ≡ true
   unfolding all_within
   rule_added day r e = every_cons _ r b.rules (added_within b day r e) h
 
@@ -62,7 +65,7 @@ module _ (b : Book) (h : all_within b ≡ true) where
   unfolding all_within
   left_within c e f = rw (e, f, h)
 
-  command_within : (l : Letter) (v : List ℕ) → is_e (asks l v) ≡ false → refusal b (command_of l v) ≡ 0
+  command_within : (l : Letter) (v : List ℕ) → is_e (asks l v) ≡ false → refusal b (command_of l v) ≡ None
       → all_within (edited b (command_of l v)) ≡ true
   unfolding edited command_of is_e
   command_within letter_t v n e = type_added _
@@ -78,16 +81,16 @@ module _ (b : Book) (h : all_within b ≡ true) where
 
 -- ---- a line
 
-unless_within : (n : ℕ) (b : Book) (k : Command) → all_within b ≡ true → (n ≡ 0 → all_within (edited b k) ≡ true)
-    → all_within (unless n b k).book ≡ true
+unless_within : (o : Option Refusal) (b : Book) (k : Command) → all_within b ≡ true
+    → (o ≡ None → all_within (edited b k) ≡ true) → all_within (unless o b k).book ≡ true
 unfolding unless
-unless_within zero b k h f = f refl
-unless_within (suc n) b k h f = h
+unless_within None b k h f = f refl
+unless_within (Some r) b k h f = h
 
 read_within : (how : Sent) (b : Book) → all_within b ≡ true → (r : Reading) → is_e r ≡ false
     → all_within (after_reading how b r).book ≡ true
 unfolding after_reading taken refusal taken_sent
-read_within how b h (refused n) e = h
+read_within how b h (refused r) e = h
 read_within how b h (asks l v) e =
     cases (elsewhere how (v ! 0))
     (λ f. ap (λ s. all_within s.book) (taken_elsewhere (elsewhere how (v ! 0)) b (command_of l v) f) ∙ h)

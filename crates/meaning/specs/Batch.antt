@@ -1,11 +1,11 @@
 -- A batch of lines from one depository (document 02, request a): which batch is taken, the lines that it stands as, and
 -- where its answers stand. Assumes nothing.
-use Rattle.std.specs.Prelude.{ℕ, ◌-◌, ◌*◌, Bool, cond, ◌&&◌, List, [], ◌∷◌, ◌++◌, leb, length, drop, replicate}
+use Rattle.std.specs.Prelude.{ℕ, ◌-◌, ◌*◌, Bool, cond, ◌&&◌, List, [], ◌∷◌, ◌++◌, Result, Ok, Err, leb, length, drop, replicate}
 use Rattle.meaning.specs.Desk.{lines_of}
 use Rattle.meaning.specs.Printing.{printed}
 use Rattle.meaning.specs.declared.Answer.{Answer}
-use Rattle.meaning.specs.declared.Batch.{Batch}
-use Rattle.meaning.specs.declared.Batch.TheVariants.{Refused, Answered}
+use Rattle.meaning.specs.declared.Refusal.{Refusal}
+use Rattle.meaning.specs.declared.Refusal.TheVariants.{BatchTooLarge}
 
 -- a batch has at most 64 lines
 abbrev pub most : ℕ
@@ -20,9 +20,9 @@ unfoldable pub fits : ℕ → ℕ → Bool
 fits n space = leb n most && leb (width * n) space
 
 -- what the step returns: the number of lines, or 11
-unfoldable pub batch_result : List ℕ → ℕ → Batch
+unfoldable pub batch_result : List ℕ → ℕ → Result ℕ Refusal
 unfolding fits lines_of
-batch_result text space = cond (fits (length (lines_of text)) space) (Answered (length (lines_of text))) (Refused 11)
+batch_result text space = cond (fits (length (lines_of text)) space) (Ok (length (lines_of text))) (Err BatchTooLarge)
 
 -- the lines that a batch stands as, parted as at the desk; none where it is refused 11
 unfoldable pub batch_lines : List ℕ → ℕ → List (List ℕ)

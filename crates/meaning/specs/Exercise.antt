@@ -1,7 +1,6 @@
 -- THE EXERCISE: a rule is taken out and put back, or moved to another sequence. What the answers are then, over every
 -- sound lone book. Stated here, proved in proofs/Exercise*. Assumes nothing.
-use Rattle.std.specs.Prelude.{ℕ, zero, suc, ◌≡◌, Bool, true, false, cond, ◌&&◌, ◌||◌, List, [], ◌∷◌, ◌++◌, map, eqb}
-use Rattle.std.proofs.Math.Option.{Option, some, none}
+use Rattle.std.specs.Prelude.{ℕ, zero, suc, ◌≡◌, Bool, true, false, cond, ◌&&◌, ◌||◌, List, [], ◌∷◌, ◌++◌, map, eqb, Option, Some, None}
 use Rattle.std.proofs.Math.Dec.{ltb}
 use Rattle.tables.specs.Count.{has, change, least, Same}
 use Rattle.meaning.specs.Records.{
@@ -39,15 +38,15 @@ use Rattle.meaning.specs.declared.Sent.{Sent}
 -- what is read asks for a command, or is refused
 unfoldable pub command_read : Reading → Option Command
 unfolding command_of
-command_read (refused n) = none
-command_read (asks l v) = some (command_of l v)
+command_read (refused r) = None
+command_read (asks l v) = Some (command_of l v)
 
 -- Lines are sent one after the other, alone or in batches: these commands, each answered K, and between them any lines
 -- that leave the lists, as questions and refused lines do.
 pub data Entered : Book → List (Sent × List ℕ) → List Command → Type 0 where
   done : {b : Book} → Entered b [] []
   taking : {b : Book} {how : Sent} {line : List ℕ} {lines : List (Sent × List ℕ)} {k : Command} {ks : List Command}
-      → command_read (reading line) ≡ some k → (step_sent how b line).answer ≡ Taken
+      → command_read (reading line) ≡ Some k → (step_sent how b line).answer ≡ Taken
       → Entered (step_sent how b line).book lines ks → Entered b ((how, line) ∷ lines) (k ∷ ks)
   passing : {b : Book} {how : Sent} {line : List ℕ} {lines : List (Sent × List ℕ)} {ks : List Command}
       → (step_sent how b line).book ≡ b → Entered b lines ks → Entered b ((how, line) ∷ lines) ks
@@ -57,7 +56,7 @@ pub data Entered : Book → List (Sent × List ℕ) → List Command → Type 0 
 abbrev pub QuestionAnswered : Type 0
 QuestionAnswered =
     (how : Sent) (b : Book) (line : List ℕ) (q : Question) (w : Wishes) → elsewhere how (depository line) ≡ false
-    → command_read (reading line) ≡ some (ask q w) → (step_sent how b line).answer ≡ answer_to (judged b q) w
+    → command_read (reading line) ≡ Some (ask q w) → (step_sent how b line).answer ≡ answer_to (judged b q) w
 
 -- the book holds exactly that rule: sequence, sign, criteria and days too
 unfoldable pub same_rule : Rule → Rule → Bool

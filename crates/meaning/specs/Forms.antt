@@ -1,7 +1,6 @@
 -- The forms of a field, and the table of letters (document 01, 'Lines'; document 02, request b;
 -- for request d the forms that its letters will have). Assumes nothing.
-use Rattle.std.specs.Prelude.{ℕ, zero, suc, ◌/◌, ◌%◌, Bool, true, false, not, cond, ◌&&◌, ◌||◌, List, [], ◌∷◌, ◌++◌, leb, ltb, eqb, length, get_or}
-use Rattle.std.proofs.Math.Option.{Option, some, none}
+use Rattle.std.specs.Prelude.{ℕ, zero, suc, ◌/◌, ◌%◌, Bool, true, false, not, cond, ◌&&◌, ◌||◌, List, [], ◌∷◌, ◌++◌, leb, ltb, eqb, length, get_or, Option, Some, None}
 use Rattle.tables.specs.Count.{every}
 use Rattle.meaning.specs.Text.{bytes, same, word, decimal, word_place}
 use Rattle.meaning.specs.Fields.{within, is_digit, is_capital}
@@ -52,8 +51,8 @@ is_word (suc k) n = is_capital (n % 256) && is_word k (n / 256)
 
 -- the number n, if the test passed
 abbrev pub given : Bool → ℕ → Option ℕ
-given true n = some n
-given false n = none
+given true n = Some n
+given false n = None
 
 -- a field's decimal number, if it passes the test
 abbrev pub numbered : (ℕ → Bool) → List ℕ → Option ℕ
@@ -68,7 +67,7 @@ read code f = numbered is_code f
 read day f = given (eqb (length f) 8 && is_number f && is_day (decimal f)) (decimal f)
 read (letters n) f = given (eqb (length f) n && every is_capital f) (word f)
 read (one_of ws) f = given (leb (word_place f ws) (length ws)) (word_place f ws)
-read (optional φ) f = cond (eqb (length f) 0) (some 0) (read φ f)
+read (optional φ) f = cond (eqb (length f) 0) (Some 0) (read φ f)
 
 -- the numbers that fields of that form give: the range of the form
 unfoldable pub holds : Form → ℕ → Bool
@@ -282,5 +281,5 @@ has_length n s = eqb n (length s.forms)
 
 -- the first row that passes a test
 unfoldable pub first_shape : (Shape → Bool) → List Shape → Option Shape
-first_shape p [] = none
-first_shape p (s ∷ ss) = cond (p s) (some s) (first_shape p ss)
+first_shape p [] = None
+first_shape p (s ∷ ss) = cond (p s) (Some s) (first_shape p ss)

@@ -1,10 +1,9 @@
 -- What a trainer may say of the status (document 02, request b). Stated here, proved in proofs/Holding; examples 1 to 6
 -- of source document 004's 'Description of requested change' are in proofs/HoldExamples. Assumes nothing.
-use Rattle.std.specs.Prelude.{ℕ, ◌≡◌, Bool, true, false, List, [], ◌∷◌, ◌++◌, ◌⊎◌, length}
-use Rattle.std.proofs.Math.Option.{some}
+use Rattle.std.specs.Prelude.{ℕ, ◌≡◌, Bool, true, false, List, [], ◌∷◌, ◌++◌, ◌⊎◌, length, Some}
 use Rattle.meaning.specs.Fields.{fields}
 use Rattle.meaning.specs.Forms.{letter_q}
-use Rattle.meaning.specs.Records.{Rule, Book, Question, command_of, ask}
+use Rattle.meaning.specs.Records.{Rule, Book, Question, wish_of, command_of, ask}
 use Rattle.meaning.specs.Reading.{reading}
 use Rattle.meaning.specs.Judging.{judged}
 use Rattle.meaning.specs.Status.{is_on, wished, status}
@@ -41,14 +40,14 @@ pub record ByLength (how : Sent) (b : Book) (line : List ℕ) (q : Question) (w 
 abbrev pub StatusByLength : Type 0
 StatusByLength =
     (how : Sent) (b : Book) (line : List ℕ) (q : Question) (w : Wishes) → elsewhere how (depository line) ≡ false
-    → command_read (reading line) ≡ some (ask q w) → ByLength how b line q w
+    → command_read (reading line) ≡ Some (ask q w) → ByLength how b line q w
 
 -- Eleven numbers with an indicator and a default behind them ask the same question, so that the verdict is the same.
 abbrev pub SameQuestion : Type 0
 SameQuestion =
     (v : List ℕ) (indicator default : ℕ) (q : Question) (w : Wishes) → length v ≡ 11 → command_of letter_q v ≡ ask q w
     → command_of letter_q (v ++ (indicator ∷ default ∷ []))
-    ≡ ask q (record { indicator = indicator; default = default })
+    ≡ ask q (record { indicator = wish_of indicator; default = wish_of default })
 
 -- The longer answer is the shorter one with the status behind it.
 abbrev pub StatusLast : Type 0

@@ -1,7 +1,6 @@
 -- What the start of a day and a release do to a kept instruction (document 02, request d; source document 004, example
 -- 6), for the trainer. Stated here, proved in proofs/Keeping. Assumes nothing.
-use Rattle.std.specs.Prelude.{ℕ, ◌≡◌, Bool, true, false, ◌&&◌, ◌||◌, eqb}
-use Rattle.std.proofs.Math.Option.{some}
+use Rattle.std.specs.Prelude.{ℕ, ◌≡◌, Bool, true, false, ◌&&◌, ◌||◌, eqb, Some}
 use Rattle.tables.specs.Count.{has}
 use Rattle.meaning.specs.Records.{Rule, Kept, Book, Question}
 use Rattle.meaning.specs.Judging.{covers, matches, judged}
@@ -18,13 +17,13 @@ WholeBook = (b : Book) (q : Question) → judged (scoped whole b) q ≡ judged b
 -- day that it bore, unless the instruction is cancelled.
 abbrev pub HoldStays : Type 0
 HoldStays =
-    (b : Book) (day : ℕ) (k k' : Kept) (hold : ℕ) → started b day k ≡ some k' → is_held k hold ≡ true
+    (b : Book) (day : ℕ) (k k' : Kept) (hold : ℕ) → started b day k ≡ Some k' → is_held k hold ≡ true
     → held_since k' hold ≡ held_since k hold
 
 -- A hold bears afterwards the day that it bore, or the day of the start.
 abbrev pub HoldDays : Type 0
 HoldDays =
-    (b : Book) (day : ℕ) (k k' : Kept) (hold : ℕ) → started b day k ≡ some k'
+    (b : Book) (day : ℕ) (k k' : Kept) (hold : ℕ) → started b day k ≡ Some k'
     → (eqb (held_since k' hold) (held_since k hold) || eqb (held_since k' hold) day) ≡ true
 
 -- A release switches that hold off and leaves the other, and what is remembered.
@@ -45,13 +44,13 @@ met_anew b day k r =
 abbrev pub LeftAsItWas : Type 0
 LeftAsItWas =
     (b : Book) (day : ℕ) (k : Kept) → are_types k.remembered ≡ true → has (met_anew b day k) b.rules ≡ false
-    → started b day k ≡ some k
+    → started b day k ≡ Some k
 
 -- ---- 'any rule where a negative one of its type matched at S or a W sent before'
 
 -- What is remembered stays so, and what S and W leave are lists of types again.
 pub record MemoryStays : Type 0 where
-  pub stays : (b : Book) (day : ℕ) (k k' : Kept) (type : ℕ) → started b day k ≡ some k'
+  pub stays : (b : Book) (day : ℕ) (k k' : Kept) (type : ℕ) → started b day k ≡ Some k'
       → are_types k.remembered ≡ true → among k.remembered type ≡ true → among k'.remembered type ≡ true
   pub entry : (b : Book) (reference : ℕ) (q : Question) → are_types (entered b reference q).remembered ≡ true
-  pub start : (b : Book) (day : ℕ) (k k' : Kept) → started b day k ≡ some k' → are_types k'.remembered ≡ true
+  pub start : (b : Book) (day : ℕ) (k k' : Kept) → started b day k ≡ Some k' → are_types k'.remembered ≡ true

@@ -1,11 +1,13 @@
 -- The KELER set's 55 lines, from three tables, and the step that writes one of them (document 01, 'The KELER set').
 -- Assumes nothing.
-use Rattle.std.specs.Prelude.{ℕ, ◌-◌, not, ◌&&◌, List, [], ◌∷◌, ◌++◌, map, leb, get_or}
+use Rattle.std.specs.Prelude.{ℕ, ◌-◌, not, ◌&&◌, List, [], ◌∷◌, ◌++◌, map, leb, get_or, Option}
 use Rattle.meaning.specs.Text.{bytes, word}
 use Rattle.meaning.specs.Fields.{within}
 use Rattle.meaning.specs.Forms.{is_day, shape_t, shape_r, shape_m}
 use Rattle.meaning.specs.Records.{positive, negative}
 use Rattle.meaning.specs.Refusals.{first_of}
+use Rattle.meaning.specs.declared.Refusal.{Refusal}
+use Rattle.meaning.specs.declared.Refusal.TheVariants.{BadField, TooEarly}
 use Rattle.meaning.specs.Writing.{written}
 
 -- DELI is the first word of the form of movements
@@ -102,10 +104,10 @@ unfoldable pub keler_line : ℕ → ℕ → ℕ → ℕ → ℕ → List ℕ
 unfolding keler_lines
 keler_line number csd day first last = get_or (keler_lines csd day first last) (number - 1) []
 
--- why the step that writes a line into so many lent bytes refuses; 0 where it does not
-unfoldable pub keler_refusal : ℕ → ℕ → ℕ → ℕ → ℕ → ℕ → ℕ
+-- why the step that writes a line into so many lent bytes refuses, if it does
+unfoldable pub keler_refusal : ℕ → ℕ → ℕ → ℕ → ℕ → ℕ → Option Refusal
 keler_refusal number csd day first last space =
     first_of (
-    (5, not (within 1 55 number && within 1 8 csd && is_day day && is_day first && is_day last && leb first last && leb 80 space))
-    ∷ (6, leb first day)
+    (BadField, not (within 1 55 number && within 1 8 csd && is_day day && is_day first && is_day last && leb first last && leb 80 space))
+    ∷ (TooEarly, leb first day)
     ∷ [])

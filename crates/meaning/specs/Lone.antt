@@ -1,7 +1,6 @@
 -- The lone book's answers to a list of lines (document 01, 'One depository alone'), each of which was sent alone or in
 -- a batch of a depository (document 02, request a). Assumes nothing.
-use Rattle.std.specs.Prelude.{ℕ, zero, suc, ◌+◌, ◌-◌, Bool, true, false, cond, not, ◌&&◌, ◌||◌, List, [], ◌∷◌, map, eqb, get_or}
-use Rattle.std.proofs.Math.Option.{Option, some, none}
+use Rattle.std.specs.Prelude.{ℕ, ◌+◌, ◌-◌, Bool, true, false, cond, not, ◌&&◌, ◌||◌, List, [], ◌∷◌, map, eqb, get_or, Option, Some, None, is_some}
 use Rattle.tables.specs.Count.{keep}
 use Rattle.meaning.specs.Text.{same}
 use Rattle.meaning.specs.Fields.{within, fields}
@@ -11,6 +10,7 @@ use Rattle.meaning.specs.Refusals.{refusal_sent}
 use Rattle.meaning.specs.Edits.{edited}
 use Rattle.meaning.specs.Judging.{judged}
 use Rattle.meaning.specs.Status.{answer_to}
+use Rattle.meaning.specs.declared.Refusal.{Refusal}
 use Rattle.meaning.specs.declared.Wishes.{Wishes}
 use Rattle.meaning.specs.declared.Answer.{Answer}
 use Rattle.meaning.specs.declared.Answer.TheVariants.{Taken, Refused}
@@ -26,8 +26,8 @@ elsewhere (InBatch c) csd = not (eqb csd c)
 -- other command with K
 unfoldable pub replied : Book → Option (Question × Wishes) → Answer
 unfolding judged answer_to
-replied b none = Taken
-replied b (some (q, w)) = answer_to (judged b q) w
+replied b None = Taken
+replied b (Some (q, w)) = answer_to (judged b q) w
 
 -- what a command that is not refused answers
 unfoldable pub reply : Book → Command → Answer
@@ -39,11 +39,11 @@ pub record Step : Type 0 where
   pub answer : Answer
   pub book : Book
 
--- by the command's refusal, 0 for none: the first that holds is the answer, and the lists stay
-unfoldable pub unless : ℕ → Book → Command → Step
+-- by the command's refusal, if it has one: the first that holds is the answer, and the lists stay
+unfoldable pub unless : Option Refusal → Book → Command → Step
 unfolding reply edited
-unless zero b k = record { answer = reply b k; book = edited b k }
-unless (suc n) b k = record { answer = Refused (suc n); book = b }
+unless None b k = record { answer = reply b k; book = edited b k }
+unless (Some r) b k = record { answer = Refused r; book = b }
 
 -- what is read, told whether it names another depository than its batch
 unfoldable pub taken_sent : Bool → Book → Command → Step
@@ -56,13 +56,8 @@ taken b k = taken_sent false b k
 
 unfoldable pub after_reading : Sent → Book → Reading → Step
 unfolding taken_sent command_of elsewhere
-after_reading how b (refused n) = record { answer = Refused n; book = b }
+after_reading how b (refused r) = record { answer = Refused r; book = b }
 after_reading how b (asks l v) = taken_sent (elsewhere how (v ! 0)) b (command_of l v)
-
--- whether there is a question
-abbrev pub is_some : Option (Question × Wishes) → Bool
-is_some none = false
-is_some (some q) = true
 
 abbrev pub is_question : Command → Bool
 is_question k = is_some (question_in k)
@@ -70,9 +65,9 @@ is_question k = is_some (question_in k)
 -- whether what is read leaves the lists as they are: it is refused, or it is a question
 unfoldable pub keeps_read : Sent → Book → Reading → Bool
 unfolding refusal_sent command_of elsewhere
-keeps_read how b (refused n) = true
+keeps_read how b (refused r) = true
 keeps_read how b (asks l v) =
-    not (eqb (refusal_sent (elsewhere how (v ! 0)) b (command_of l v)) 0) || is_question (command_of l v)
+    is_some (refusal_sent (elsewhere how (v ! 0)) b (command_of l v)) || is_question (command_of l v)
 
 unfoldable pub keeps : Sent → Book → List ℕ → Bool
 unfolding keeps_read reading

@@ -1,8 +1,7 @@
 -- Pending instructions (document 02, request d; source document 004, example 6): what S keeps, what the start of a day
 -- makes of a kept instruction, and what a release leaves. Each is a definition over one instruction, the day and the
 -- lone book. No line is read as S, W or L yet. Assumes nothing.
-use Rattle.std.specs.Prelude.{ℕ, zero, suc, Bool, not, cond, ◌&&◌, ◌||◌, List, [], ◌∷◌, eqb}
-use Rattle.std.proofs.Math.Option.{Option, some, none}
+use Rattle.std.specs.Prelude.{ℕ, zero, suc, Bool, not, cond, ◌&&◌, ◌||◌, List, [], ◌∷◌, eqb, Option, Some, None}
 use Rattle.tables.specs.Count.{has, keep}
 use Rattle.meaning.specs.Text.{same}
 use Rattle.meaning.specs.Records.{TypeRecord, Kept, Book, Question, negative, validation_hold, party_hold}
@@ -157,7 +156,7 @@ start_exempted b day k = exempted (scoped (only_new b day) b) (asking day k)
 unfoldable pub started : Book → ℕ → Kept → Option Kept
 unfolding met start_verdict start_exempted
 started b day k =
-    cond (start_verdict b day k).rejected none (some (met (start_verdict b day k) (start_exempted b day k) day k))
+    cond (start_verdict b day k).rejected None (Some (met (start_verdict b day k) (start_exempted b day k) day k))
 
 -- L: the hold of that processing is off
 unfoldable pub released : ℕ → Kept → Kept

@@ -1,6 +1,7 @@
 -- The printed form of an answer (document 01, 'The desk program'; document 02, request b). Assumes nothing.
 use Rattle.std.specs.Prelude.{ℕ, Bool, true, false, List, [], ◌∷◌, ◌++◌}
 use Rattle.meaning.specs.Text.{bytes, numeral}
+use Rattle.meaning.specs.Refusals.{number_of}
 use Rattle.meaning.specs.declared.Verdict.{Verdict}
 use Rattle.meaning.specs.declared.Answer.{Answer}
 use Rattle.meaning.specs.declared.Answer.TheVariants.{Taken, Refused, Judged, WithStatus}
@@ -13,7 +14,7 @@ verdict_text false = bytes "V,A"
 -- the letters in front of an answer's numbers
 unfoldable pub text_of : Answer → List ℕ
 text_of Taken = bytes "K"
-text_of (Refused n) = bytes "F"
+text_of (Refused r) = bytes "F"
 text_of (Judged v) = verdict_text v.rejected
 text_of (WithStatus v s) = verdict_text v.rejected
 
@@ -31,7 +32,7 @@ verdict_numbers v =
 -- the paper's numbers of each case: the refusal's, or the verdict's
 unfoldable pub numbers_of : Answer → List ℕ
 numbers_of Taken = []
-numbers_of (Refused n) = n ∷ []
+numbers_of (Refused r) = number_of r ∷ []
 numbers_of (Judged v) = verdict_numbers v
 numbers_of (WithStatus v s) = verdict_numbers v
 
@@ -43,7 +44,7 @@ status_text false = bytes ",N"
 -- what stands behind the numbers of each case: the status, or nothing
 unfoldable pub end_of : Answer → List ℕ
 end_of Taken = []
-end_of (Refused n) = []
+end_of (Refused r) = []
 end_of (Judged v) = []
 end_of (WithStatus v s) = status_text s
 

@@ -1,7 +1,6 @@
 -- The records of a lone book, and what a line asks, by name (document 01, 'Records' and the table of letters; document
 -- 02, requests b and d). Assumes nothing. A lone book is one depository's, so its records do not have the csd.
-use Rattle.std.specs.Prelude.{ℕ, List, [], ◌∷◌, get_or}
-use Rattle.std.proofs.Math.Option.{Option, some, none}
+use Rattle.std.specs.Prelude.{ℕ, Bool, cond, List, [], ◌∷◌, eqb, get_or, Option, Some, None}
 use Rattle.meaning.specs.declared.Wishes.{Wishes}
 use Rattle.meaning.specs.Forms.{Letter, letter_t, letter_e, letter_r, letter_o, letter_d, letter_m, letter_n, letter_a, letter_z, letter_q}
 
@@ -31,9 +30,9 @@ validation_hold = 2
 abbrev pub party_hold : ℕ
 party_hold = 3
 
--- of a hold indicator and an account's default
-abbrev pub yes : ℕ
-yes = 1
+-- what a hold indicator or an account's default says by its number: whether it is Y; nothing where it is empty
+abbrev pub wish_of : ℕ → Option Bool
+wish_of n = cond (eqb n 0) None (Some (eqb n 1))
 
 -- ---- the records
 
@@ -141,16 +140,16 @@ pub data Command : Type 0 where
 
 -- the question that a command asks, if it is one, with the wishes that it carries
 abbrev pub question_in : Command → Option (Question × Wishes)
-question_in (add_type day t) = none
-question_in (end_type day type object last) = none
-question_in (add_rule day r) = none
-question_in (reorder type object sequence new) = none
-question_in (delete_rule type object sequence) = none
-question_in (add_row w) = none
-question_in (delete_row w) = none
-question_in (add_period day p) = none
-question_in (end_period day kind number code first last) = none
-question_in (ask q w) = some (q, w)
+question_in (add_type day t) = None
+question_in (end_type day type object last) = None
+question_in (add_rule day r) = None
+question_in (reorder type object sequence new) = None
+question_in (delete_rule type object sequence) = None
+question_in (add_row w) = None
+question_in (delete_row w) = None
+question_in (add_period day p) = None
+question_in (end_period day kind number code first last) = None
+question_in (ask q w) = Some (q, w)
 
 -- the number at a place of a list, 0 past its end
 infixl 90 ◌!◌
@@ -195,4 +194,4 @@ command_of letter_q v =
       account = v ! 9;
       security = v ! 10;
     })
-    (record { indicator = v ! 11; default = v ! 12 })
+    (record { indicator = wish_of (v ! 11); default = wish_of (v ! 12) })

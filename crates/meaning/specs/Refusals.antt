@@ -1,7 +1,7 @@
--- Refusal 5 as far as no single field shows it, refusal 12 of a line in a batch (document 02, request a), and refusals
--- 6 to 10 in the order of document 01's list (its 'Refused lines'), with 13 after 9 and before 10 (document 02, request
--- c). Assumes nothing.
-use Rattle.std.specs.Prelude.{ℕ, Bool, false, not, cond, ◌&&◌, ◌||◌, List, [], ◌∷◌, leb, ltb, eqb, length}
+-- The refusals' numbers; refusal 5 as far as no single field shows it, refusal 12 of a line in a batch (document 02,
+-- request a), and refusals 6 to 10 in the order of document 01's list (its 'Refused lines'), with 13 after 9 and before
+-- 10 (document 02, request c). Assumes nothing.
+use Rattle.std.specs.Prelude.{ℕ, Bool, false, not, cond, ◌&&◌, ◌||◌, List, [], ◌∷◌, Option, Some, None, leb, ltb, eqb, length}
 use Rattle.tables.specs.Count.{has}
 use Rattle.meaning.specs.Forms.{wrongly_filled}
 use Rattle.meaning.specs.Records.{
@@ -27,6 +27,38 @@ use Rattle.meaning.specs.Records.{
   period_quota,
 }
 use Rattle.meaning.specs.Keys.{is_type, is_rule, of_rule, is_row, is_period, clash, filled}
+use Rattle.meaning.specs.declared.Refusal.{Refusal}
+use Rattle.meaning.specs.declared.Refusal.TheVariants.{
+  UnsoundBook,
+  BadLine,
+  NoLetter,
+  FieldCount,
+  BadField,
+  TooEarly,
+  NotFound,
+  AlreadyHeld,
+  Conflict,
+  QuotaFull,
+  BatchTooLarge,
+  OtherDepository,
+  LeavesType,
+}
+
+-- the papers' number of each refusal
+abbrev pub number_of : Refusal → ℕ
+number_of UnsoundBook = 1
+number_of BadLine = 2
+number_of NoLetter = 3
+number_of FieldCount = 4
+number_of BadField = 5
+number_of TooEarly = 6
+number_of NotFound = 7
+number_of AlreadyHeld = 8
+number_of Conflict = 9
+number_of QuotaFull = 10
+number_of BatchTooLarge = 11
+number_of OtherDepository = 12
+number_of LeavesType = 13
 
 -- what no single field shows of refusal 5
 unfoldable pub wrong : Command → Bool
@@ -42,10 +74,15 @@ wrong (add_period day p) = ltb p.last p.first
 wrong (end_period day kind number code first last) = false
 wrong (ask q w) = wrongly_filled q.object q.movement q.payment
 
--- the number of the first condition that holds; 0 where none does
-abbrev pub first_of : List (ℕ × Bool) → ℕ
-first_of [] = 0
-first_of (c ∷ cs) = cond c.1 c.0 (first_of cs)
+-- the refusal whose condition is the first that holds, if one does
+abbrev pub first_of : List (Refusal × Bool) → Option Refusal
+first_of [] = None
+first_of (c ∷ cs) = cond c.1 (Some c.0) (first_of cs)
+
+-- whether that refusal is the one given
+abbrev pub is_given : Refusal → Option Refusal → Bool
+is_given r None = false
+is_given r (Some s) = eqb (number_of s) (number_of r)
 
 -- the day is before the record's first or after its present last
 abbrev pub outside : ℕ → ℕ → ℕ → Bool
@@ -71,60 +108,60 @@ unfoldable pub other_criteria : Row → Rule → Bool
 unfolding is_rule
 other_criteria w r = is_rule w.type w.object w.sequence r && not (eqb r.criteria (filled w.values))
 
--- the conditions of a command, each with its number
-unfoldable pub conditions : Book → Command → List (ℕ × Bool)
+-- the conditions of a command, each with its refusal
+unfoldable pub conditions : Book → Command → List (Refusal × Bool)
 unfolding has is_type is_rule of_rule is_row is_period clash type_outside leaves period_outside other_criteria
 conditions b (add_type day t) =
-    (6, leb t.first day)
-    ∷ (8, has (is_type t.type t.object) b.types)
-    ∷ (10, leb type_quota (length b.types))
+    (TooEarly, leb t.first day)
+    ∷ (AlreadyHeld, has (is_type t.type t.object) b.types)
+    ∷ (QuotaFull, leb type_quota (length b.types))
     ∷ []
 conditions b (end_type day type object last) =
-    (6, ltb last day)
-    ∷ (7, not (has (is_type type object) b.types))
-    ∷ (9, has (type_outside type object last) b.types)
+    (TooEarly, ltb last day)
+    ∷ (NotFound, not (has (is_type type object) b.types))
+    ∷ (Conflict, has (type_outside type object last) b.types)
     ∷ []
 conditions b (add_rule day r) =
-    (6, leb r.first day)
-    ∷ (7, not (has (is_type r.type r.object) b.types))
-    ∷ (8, has (is_rule r.type r.object r.sequence) b.rules)
-    ∷ (13, has (leaves r) b.types)
-    ∷ (10, leb rule_quota (length b.rules))
+    (TooEarly, leb r.first day)
+    ∷ (NotFound, not (has (is_type r.type r.object) b.types))
+    ∷ (AlreadyHeld, has (is_rule r.type r.object r.sequence) b.rules)
+    ∷ (LeavesType, has (leaves r) b.types)
+    ∷ (QuotaFull, leb rule_quota (length b.rules))
     ∷ []
 conditions b (reorder type object sequence new) =
-    (7, not (has (is_rule type object sequence) b.rules))
-    ∷ (8, has (is_rule type object new) b.rules)
+    (NotFound, not (has (is_rule type object sequence) b.rules))
+    ∷ (AlreadyHeld, has (is_rule type object new) b.rules)
     ∷ []
 conditions b (delete_rule type object sequence) =
-    (7, not (has (is_rule type object sequence) b.rules))
-    ∷ (9, has (of_rule type object sequence) b.rows)
+    (NotFound, not (has (is_rule type object sequence) b.rules))
+    ∷ (Conflict, has (of_rule type object sequence) b.rows)
     ∷ []
 conditions b (add_row w) =
-    (7, not (has (is_rule w.type w.object w.sequence) b.rules))
-    ∷ (8, has (is_row w) b.rows)
-    ∷ (9, has (other_criteria w) b.rules)
-    ∷ (10, leb row_quota (length b.rows))
+    (NotFound, not (has (is_rule w.type w.object w.sequence) b.rules))
+    ∷ (AlreadyHeld, has (is_row w) b.rows)
+    ∷ (Conflict, has (other_criteria w) b.rules)
+    ∷ (QuotaFull, leb row_quota (length b.rows))
     ∷ []
-conditions b (delete_row w) = (7, not (has (is_row w) b.rows)) ∷ []
+conditions b (delete_row w) = (NotFound, not (has (is_row w) b.rows)) ∷ []
 conditions b (add_period day p) =
-    (6, leb p.first day)
-    ∷ (8, has (clash p) b.periods)
-    ∷ (10, leb period_quota (length b.periods))
+    (TooEarly, leb p.first day)
+    ∷ (AlreadyHeld, has (clash p) b.periods)
+    ∷ (QuotaFull, leb period_quota (length b.periods))
     ∷ []
 conditions b (end_period day kind number code first last) =
-    (6, ltb last day)
-    ∷ (7, not (has (is_period kind number code first) b.periods))
-    ∷ (9, has (period_outside kind number code first last) b.periods)
+    (TooEarly, ltb last day)
+    ∷ (NotFound, not (has (is_period kind number code first) b.periods))
+    ∷ (Conflict, has (period_outside kind number code first last) b.periods)
     ∷ []
 conditions b (ask q w) = []
 
--- the earliest refusal whose condition holds; 0 where none does. 12, where a line names another depository than its
--- batch, stands straight after 5 and before the command's own.
-unfoldable pub refusal_sent : Bool → Book → Command → ℕ
+-- the earliest refusal whose condition holds, if one does. 12, where a line names another depository than its batch,
+-- stands straight after 5 and before the command's own.
+unfoldable pub refusal_sent : Bool → Book → Command → Option Refusal
 unfolding conditions
-refusal_sent elsewhere b k = first_of ((12, elsewhere) ∷ conditions b k)
+refusal_sent elsewhere b k = first_of ((OtherDepository, elsewhere) ∷ conditions b k)
 
 -- of a line that names its batch's depository, or was sent alone
-unfoldable pub refusal : Book → Command → ℕ
+unfoldable pub refusal : Book → Command → Option Refusal
 unfolding refusal_sent
 refusal b k = refusal_sent false b k

@@ -1,8 +1,6 @@
 -- The status of an instruction, Y where it is on party hold (document 02, request b; source document 004, 'Hold/Release
 -- Default'). Assumes nothing.
-use Rattle.std.specs.Prelude.{Bool, false, not, cond, ◌&&◌, ◌||◌, eqb}
-use Rattle.std.proofs.Math.Option.{Option, some, none}
-use Rattle.meaning.specs.Records.{yes}
+use Rattle.std.specs.Prelude.{Bool, false, not, cond, ◌||◌, eqb, Option, Some, None, is_some, unwrap_or}
 use Rattle.meaning.specs.declared.Deciding.{Deciding}
 use Rattle.meaning.specs.declared.Verdict.{Verdict}
 use Rattle.meaning.specs.declared.Wishes.{Wishes}
@@ -15,7 +13,7 @@ is_on d = not (eqb d.number 0)
 
 -- the indicator is Y, or it is empty and the account's default is Y
 unfoldable pub wished : Wishes → Bool
-wished w = eqb w.indicator yes || (eqb w.indicator 0 && eqb w.default yes)
+wished w = unwrap_or w.indicator (unwrap_or w.default false)
 
 -- A rejection gives N; otherwise Y exactly if a party hold rule applies or the hold is wished for. A validation hold
 -- does not count.
@@ -25,7 +23,7 @@ status v w = cond v.rejected false (is_on v.party || wished w)
 
 -- whether a line carries the two fields: the default is then filled
 abbrev pub carried : Wishes → Bool
-carried w = not (eqb w.default 0)
+carried w = is_some w.default
 
 -- the answer to a question that was judged so: it ends with the status where the line carries the two fields
 unfoldable pub answer_to : Verdict → Wishes → Answer
@@ -34,7 +32,7 @@ answer_to v w = cond (carried w) (WithStatus v (status v w)) (Judged v)
 
 -- the status that an answer ends with, if it has one
 unfoldable pub status_in : Answer → Option Bool
-status_in Taken = none
-status_in (Refused n) = none
-status_in (Judged v) = none
-status_in (WithStatus v s) = some s
+status_in Taken = None
+status_in (Refused r) = None
+status_in (Judged v) = None
+status_in (WithStatus v s) = Some s

@@ -1,18 +1,19 @@
 -- 'Types from next year only' (document 02, request c): a rule's period and its type's. Stated here, proved in
 -- proofs/Within, proofs/WithinLines and proofs/WithinJudged. Assumes nothing.
-use Rattle.std.specs.Prelude.{ℕ, ◌≤◌, ◌≡◌, Bool, true, false, not, ◌&&◌, ◌||◌, List, [], ◌∷◌, leb, eqb}
+use Rattle.std.specs.Prelude.{ℕ, ◌≤◌, ◌≡◌, Bool, true, false, not, ◌&&◌, ◌||◌, List, [], ◌∷◌, Some, leb}
 use Rattle.tables.specs.Count.{has, every, change}
 use Rattle.meaning.specs.Text.{bytes, same}
 use Rattle.meaning.specs.Forms.{Letter, letter_e, letter_r, letter_text}
 use Rattle.meaning.specs.Records.{TypeRecord, Rule, Row, Book, empty, Question, command_of, end_type, add_rule, reorder, add_row}
 use Rattle.meaning.specs.Reading.{Reading, refused, asks, reading}
 use Rattle.meaning.specs.Keys.{is_type, is_rule}
-use Rattle.meaning.specs.Refusals.{leaves, refusal}
+use Rattle.meaning.specs.Refusals.{leaves, refusal, is_given}
 use Rattle.meaning.specs.Edits.{with_types, with_rules}
 use Rattle.meaning.specs.Judging.{covers, rule_applies, applies, judged}
 use Rattle.meaning.specs.Sound.{sound_lone}
 use Rattle.meaning.specs.Lone.{answers, after, after_sent}
 use Rattle.meaning.specs.declared.Answer.TheVariants.{Taken}
+use Rattle.meaning.specs.declared.Refusal.TheVariants.{LeavesType}
 use Rattle.meaning.specs.declared.Sent.{Sent}
 
 -- ---- 'keeps each rule within its type'
@@ -44,13 +45,13 @@ LeavesByDays =
 abbrev pub Thirteen : Type 0
 Thirteen =
     (b : Book) (day : ℕ) (r : Rule)
-    → eqb (refusal b (add_rule day r)) 13
+    → is_given LeavesType (refusal b (add_rule day r))
     ≡ (not (leb r.first day) && has (is_type r.type r.object) b.types
     && not (has (is_rule r.type r.object r.sequence) b.rules) && has (leaves r) b.types)
 
 -- No other letter is refused 13,
 abbrev pub OnlyR : Type 0
-OnlyR = (b : Book) (l : Letter) (v : List ℕ) → refusal b (command_of l v) ≡ 13 → l ≡ letter_r
+OnlyR = (b : Book) (l : Letter) (v : List ℕ) → refusal b (command_of l v) ≡ Some LeavesType → l ≡ letter_r
 
 -- and what O and M are refused does not depend on the types, so on no period of a type.
 pub record WhateverTypes : Type 0 where
@@ -63,7 +64,7 @@ pub record WhateverTypes : Type 0 where
 
 -- whether what is read is an E
 unfoldable pub is_e : Reading → Bool
-is_e (refused n) = false
+is_e (refused r) = false
 is_e (asks l v) = same (letter_text l) (letter_text letter_e)
 
 -- whether a line is an E, whatever it is answered

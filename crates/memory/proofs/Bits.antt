@@ -1,67 +1,33 @@
--- Laws of the bits of a byte and of the 13 bytes, and what the functions have to show.
-use Prim.Native.Nat.{ℕ, zero, suc, ◌+◌, ◌/◌, ◌%◌, ◌≤◌, ◌<◌}
+-- What the functions on the 13 bytes have to show.
+use Prim.Native.Nat.{ℕ, zero, suc, ◌+◌, ◌-◌, ◌/◌, ◌%◌, ◌≤◌, ◌<◌}
 use mathlib.Core.Path.{◌≡◌, refl, ap, sym, ◌∙◌, fun_ext}
 use mathlib.Core.Bool.{Bool, true, false, not, cond, ◌&&◌, and-true}
-use mathlib.Core.List.{List, [], ◌∷◌}
-use native.Mathlib.Numerals.{add-one}
+use mathlib.Core.List.{List}
 use native.Mathlib.Omega.{arith}
 use lib.Dec.{eqb, ltb}
 use lib.ListN.{get_or, set, length-set, get_or-eq_default}
 use lib.Seq.{get_or-set_same, get_or-set_other}
-use borrow.Author.Tests.{eqb-false, ltb-true, ltb-false, lt-ltb, le-ltb}
+use borrow.Author.Tests.{ltb-true, ltb-false, lt-ltb, le-ltb}
 use Rattle.tables.specs.Keyed.{marked, Blank}
 use Rattle.tables.proofs.Counts.{cases, cases_eq}
-use Rattle.tables.proofs.Match.{NoneBelow, past}
-use Rattle.marks.specs.Flags.{weight, flag, with_flag}
+use Rattle.marks.specs.Flags.{with_flag}
 use Rattle.memory.specs.Remembered.{bit_of, all_off, spare_clear, type_bits, with_type, with_types_to, with_types, MarksTo}
 
--- ---- one byte
+-- ---- the spare bits
 
--- The last arm, where no other number fits.
-pub last_bit : (t : ℕ) → NoneBelow 7 (t % 8) → t % 8 ≡ 7
-last_bit t r = omega (arith, past 7 (t % 8) r)
-
--- A bit that a byte lacks can be added to it.
-flag_fits : (j n x : ℕ) → j < n → x < weight n → flag j x ≡ false → x + weight j < weight n
-unfolding weight flag
-flag_fits zero zero x l h e = absurd (omega arith)
-flag_fits (suc j) zero x l h e = absurd (omega arith)
-flag_fits zero (suc n) x l h e = omega (arith, eqb-false (x % 2) 1 e)
-flag_fits (suc j) (suc n) x l h e = omega (arith, flag_fits j n (x / 2) (omega arith) (omega arith) e)
-
-pub bit_fits : (t x w : ℕ) (h : Bool) → w ≡ weight (t % 8) → h ≡ flag (t % 8) x → h ≡ false → x < 256 → x + w < 256
-unfolding weight
-bit_fits t x w h ew e f l = rw ew (flag_fits (t % 8) 8 x (omega arith) l (sym e ∙ f))
-
--- ---- the bytes
-
-pub bit_by : (m : List ℕ) (n x : ℕ) (r : Bool) → r ≡ flag (n % 8) x → x ≡ get_or m (n / 8) 0 → r ≡ bit_of m n
-unfolding bit_of
-bit_by m n x r e f = e ∙ ap (flag (n % 8)) f
-
-pub lacks_by : (m : List ℕ) (n : ℕ) (q r : Bool) → r ≡ not q → q ≡ bit_of m n → r ≡ not (bit_of m n)
-lacks_by m n q r e f = e ∙ ap not f
-
-pub end_by : (m : List ℕ) (x y u v h i r : Bool) → r ≡ (h && i) → i ≡ (u && v) → v ≡ not (bit_of m 103)
-    → u ≡ not (bit_of m 102) → h ≡ (x && y) → y ≡ not (bit_of m 101) → x ≡ not (bit_of m 100)
-    → r ≡ all_off m (100 ∷ 101 ∷ 102 ∷ 103 ∷ [])
-unfolding all_off
-end_by m x y u v h i r er ei ev eu eh ey ex = rw (er, ei, eh, ex, ey, eu, ev)
-    (four_and (not (bit_of m 100)) (not (bit_of m 101)) (not (bit_of m 102)) (not (bit_of m 103)))
+pub spare_by : (m : List ℕ) (a b d e f : Bool) → f ≡ bit_of m 103 → e ≡ bit_of m 102 → d ≡ bit_of m 101
+    → b ≡ bit_of m 100 → a ≡ bit_of m 0
+    → ((((not a && not b) && not d) && not e) && not f) ≡ spare_clear m
+unfolding spare_clear all_off
+spare_by m a b d e f ef ee ed eb ea = rw (ef, ee, ed, eb, ea)
+    (five_and (not (bit_of m 0)) (not (bit_of m 100)) (not (bit_of m 101)) (not (bit_of m 102)) (not (bit_of m 103)))
   where
-    four_and : (a b c d : Bool) → ((a && b) && (c && d)) ≡ (a && (b && (c && (d && true))))
-    four_and true b c d = rw and-true
-    four_and false b c d = refl
-
-pub spare_by : (m : List ℕ) (a e r : Bool) → r ≡ (a && e) → e ≡ all_off m (100 ∷ 101 ∷ 102 ∷ 103 ∷ [])
-    → a ≡ not (bit_of m 0) → r ≡ spare_clear m
-unfolding spare_clear
-spare_by m a e r er ee ea = rw (er, ee, ea)
-
-pub type_put : (m m' : List ℕ) (n k x y : ℕ) (on : Bool) → m' ≡ cond on (set m k y) m → y ≡ with_flag (n % 8) x
-    → x ≡ get_or m k 0 → k ≡ n / 8 → m' ≡ with_type m n on
-unfolding with_type
-type_put m m' n k x y on em ey ex ek = em ∙ rw (ey, ex, ek)
+    five_and : (a b d e f : Bool) → ((((a && b) && d) && e) && f) ≡ (a && (b && (d && (e && (f && true)))))
+    five_and false b d e f = refl
+    five_and true false d e f = refl
+    five_and true true false e f = refl
+    five_and true true true false f = refl
+    five_and true true true true f = sym (and-true f)
 
 -- ---- one number after the other
 
@@ -69,14 +35,21 @@ pub types_none : (m marks : List ℕ) → m ≡ with_types_to 0 m (marked marks)
 unfolding with_types_to
 types_none m marks = refl
 
-pub types_more : (m marks r r' : List ℕ) (n : ℕ) (on : Bool) → r' ≡ with_type r (n + 1) on → on ≡ marked marks (n + 1)
-    → r ≡ with_types_to n m (marked marks) → r' ≡ with_types_to (n + 1) m (marked marks)
-unfolding with_types_to
-types_more m marks r r' n on er eo e = er ∙ rw (eo, e, add-one)
+-- With the bit of the number n, before which those of 1 to n - 1 were put in.
+pub types_more : (m marks r r' : List ℕ) (n k : ℕ) (on : Bool)
+    → r' ≡ cond on (set r (k / 8) (with_flag (k % 8) (get_or r (k / 8) 0))) r → on ≡ marked marks k → k ≡ n
+    → r ≡ with_types_to (n - 1) m (marked marks) → 1 ≤ n → r' ≡ with_types_to (n + 1 - 1) m (marked marks)
+unfolding with_type with_types_to
+types_more m marks r r' zero k on er eo ek e l = absurd (omega arith)
+types_more m marks r r' (suc n) k on er eo ek e l =
+    let i : suc n + 1 - 1 ≡ suc n = omega arith in
+    let j : suc n - 1 ≡ n = omega arith in
+    rw i (er ∙ rw (eo, ek, rw j at e))
 
-pub types_end : (m marks r : List ℕ) (n : ℕ) → r ≡ with_types_to n m (marked marks) → n ≤ 99 → 99 ≤ n → r ≡ with_types m (marked marks)
+pub types_end : (m marks r : List ℕ) (n : ℕ) → r ≡ with_types_to (n - 1) m (marked marks) → n ≡ 100
+    → r ≡ with_types m (marked marks)
 unfolding with_types
-types_end m marks r n e l h = let s : n ≡ 99 = omega arith in rw s at e
+types_end m marks r n e s = rw s at e
 
 pub marks_none : (m marks : List ℕ) → Blank 100 marks → MarksTo m marks 0
 marks_none m marks h = record {
@@ -95,22 +68,23 @@ ltb_other k n d =
     (λ e. rw (e, lt-ltb k (n + 1) (omega (arith, ltb-true k n e))))
     (λ e. rw (e, le-ltb k (n + 1) (omega (arith, ltb-false k n e, d))))
 
-mark_one : (q : Bool) → eqb (cond q 1 0) 1 ≡ q
-mark_one true = refl
-mark_one false = refl
-
-pub marks_more : (m marks marks' : List ℕ) (n v : ℕ) (q : Bool) → MarksTo m marks n → marks' ≡ set marks n v
-    → v ≡ cond q 1 0 → q ≡ bit_of m n → n < 100 → MarksTo m marks' (n + 1)
-marks_more m marks marks' n v q h es ev eq l = record {
+pub marks_more : (m marks marks' : List ℕ) (n k : ℕ) (q : Bool) → MarksTo m marks n → marks' ≡ cond q (set marks k 1) marks
+    → k ≡ n → q ≡ bit_of m n → n < 100 → MarksTo m marks' (n + 1)
+marks_more m marks marks' n k true h es ek eq l = record {
   long = rw (es, length-set) h.long;
-  each = λ k.
-      cases_eq k n
+  each = λ j.
+      cases_eq j n
+      (λ s. rw (es, ek, s, lt-ltb n (n + 1) (omega arith), get_or-set_same marks n 1 0 (omega (arith, h.long))) eq)
       (λ s.
-      rw (es, s, lt-ltb n (n + 1) (omega arith), get_or-set_same marks n v 0 (omega (arith, h.long)), ev, mark_one)
-      eq)
-      (λ s.
-      rw (es, get_or-set_other marks n k v 0 s, h.each k)
-      (ap (λ t. t && bit_of m k) (ltb_other k n s)));
+      rw (es, ek, get_or-set_other marks n j 1 0 s, h.each j)
+      (ap (λ t. t && bit_of m j) (ltb_other j n s)));
+}
+marks_more m marks marks' n k false h es ek eq l = record {
+  long = rw es h.long;
+  each = λ j.
+      cases_eq j n
+      (λ s. rw (es, s, lt-ltb n (n + 1) (omega arith)) (h.each n ∙ rw (le-ltb n n (omega arith)) eq))
+      (λ s. rw es (h.each j ∙ ap (λ t. t && bit_of m j) (ltb_other j n s)));
 }
 
 pub marks_end : (m marks : List ℕ) (n : ℕ) → MarksTo m marks n → n ≤ 100 → 100 ≤ n → marked marks ≡ type_bits m

@@ -12,9 +12,8 @@ use borrow.Author.Tests.{eq-eqb, ne_eqb, ltb-true, ltb-false, not-true}
 use Rattle.tables.proofs.Counts.{cases, cases_eq, both, agree}
 use Rattle.meaning.specs.Pending.{numbers_from, types_which, among, are_types}
 use Rattle.meaning.proofs.Remembered.{which_types, types_which_lem}
-use Rattle.marks.specs.Flags.{weight, flag, with_flag}
-use Rattle.marks.proofs.Flagging.{flag_none, flag_with}
-use Rattle.memory.proofs.Bits.{bit_fits}
+use Rattle.marks.specs.Flags.{with_flag, flagged}
+use Rattle.marks.proofs.Flagging.{flag_none, flag_with, with_byte}
 use Rattle.memory.specs.Remembered.{bit_of, types_in, spare_clear, type_bits, with_type, with_types_to, with_types}
 use Rattle.memory.proofs.Numbered.{among_within, among_past, which_only, which_zero, which_past, which_same}
 
@@ -25,7 +24,7 @@ unfolding types_in
 among_types m n l = among_within (bit_of m) 0 104 n (omega arith) l
 
 pub bit_past : (m : List ℕ) (n : ℕ) → length m ≡ 13 → 104 ≤ n → bit_of m n ≡ false
-unfolding bit_of
+unfolding bit_of flagged
 bit_past m n s l = rw (get_or-eq_default m 0 {n = n / 8} (omega (arith, s))) (flag_none (n % 8))
 
 -- Of 13 bytes, whatever the number.
@@ -118,7 +117,7 @@ type_parts t n e =
 
 bit_with : (m : List ℕ) (t n : ℕ) (on : Bool) → length m ≡ 13 → n < 104
     → bit_of (with_type m n on) t ≡ ((on && eqb t n) || bit_of m t)
-unfolding with_type bit_of
+unfolding with_type bit_of flagged
 bit_with m t n false s l = refl
 bit_with m t n true s l =
     let y = with_flag (n % 8) (get_or m (n / 8) 0) in
@@ -201,18 +200,13 @@ marks_among m n s e =
 abbrev pub Bytes : List ℕ → Type 0
 Bytes m = (k : ℕ) → get_or m k 0 < 256
 
-bit_byte : (t x : ℕ) → x < 256 → with_flag (t % 8) x < 256
-unfolding with_flag
-bit_byte t x l =
-    cases (flag (t % 8) x) (λ e. rw e l) (λ e. rw e (bit_fits t x (weight (t % 8)) (flag (t % 8) x) refl refl e l))
-
 type_bytes : (m : List ℕ) (n : ℕ) (on : Bool) → length m ≡ 13 → n < 104 → Bytes m → Bytes (with_type m n on)
 unfolding with_type
 type_bytes m n false s l h k = h k
 type_bytes m n true s l h k =
     let y = with_flag (n % 8) (get_or m (n / 8) 0) in
     cases_eq k (n / 8)
-    (λ e. rw (e, get_or-set_same m (n / 8) y 0 (omega (arith, s))) (bit_byte n (get_or m (n / 8) 0) (h (n / 8))))
+    (λ e. rw (e, get_or-set_same m (n / 8) y 0 (omega (arith, s))) (with_byte (n % 8) (get_or m (n / 8) 0) (omega arith) (h (n / 8))))
     (λ e. rw (get_or-set_other m (n / 8) k y 0 e) (h k))
 
 types_bytes : (n : ℕ) (m : List ℕ) (on : ℕ → Bool) → length m ≡ 13 → n < 104 → Bytes m → Bytes (with_types_to n m on)

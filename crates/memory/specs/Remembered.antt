@@ -3,13 +3,13 @@
 use Rattle.std.specs.Prelude.{ℕ, zero, suc, ◌/◌, ◌%◌, ◌≡◌, Bool, not, cond, ◌&&◌, List, [], ◌∷◌, ltb, length, get_or, set}
 use Rattle.tables.specs.Count.{every, keep}
 use Rattle.tables.specs.Keyed.{marked}
-use Rattle.marks.specs.Flags.{flag, with_flag}
+use Rattle.marks.specs.Flags.{with_flag, flagged}
 use Rattle.meaning.specs.Pending.{numbers_from}
 
 -- whether the bytes have the bit of type t; none is past the end
 unfoldable pub bit_of : List ℕ → ℕ → Bool
-unfolding flag
-bit_of m t = flag (t % 8) (get_or m (t / 8) 0)
+unfolding flagged
+bit_of m t = flagged 8 m t
 
 -- the numbers that the bytes say, rising
 unfoldable pub types_in : List ℕ → List ℕ

@@ -2,12 +2,14 @@
 -- rules. A pass leaves marks, tests of the keys of a table of numbers; each definition is of any bytes. Assumes
 -- nothing.
 use Rattle.std.specs.Prelude.{ℕ, ◌+◌, ◌*◌, Bool, ◌&&◌, ◌||◌, cond, List, eqb, leb}
-use Rattle.tables.specs.Keyed.{keys, after_place, Keyed}
+use Rattle.tables.specs.Keyed.{keys, Keyed}
 use Rattle.places.specs.Layout.{type_places, rule_places, type_at, rule_at}
 use Rattle.places.specs.declared.RestrictionType.{RestrictionType}
 use Rattle.places.specs.declared.Rule.{Rule}
 use Rattle.matching.specs.MatchedRows.{rule_key, rule_keys}
 use Rattle.commands.specs.declared.Question.{Question}
+use Rattle.newrules.specs.declared.Begun.{Begun}
+use Rattle.newrules.specs.declared.Begun.TheVariants.{OnTheDay, Before}
 
 -- ---- 1. the types that began on the day or before it
 
@@ -16,6 +18,11 @@ on_the_day = 1
 
 abbrev pub before : ℕ
 before = 2
+
+-- by the code's enum
+abbrev pub time_of : Begun → ℕ
+time_of OnTheDay = on_the_day
+time_of Before = before
 
 abbrev pub when_begun : ℕ → ℕ → ℕ
 when_begun first day = cond (eqb first day) on_the_day before
@@ -34,10 +41,6 @@ first_key q t = begun_key t.number (when_begun t.first q.day)
 unfoldable pub has_begun : Question → RestrictionType → Bool
 has_begun q t = eqb t.object q.object && leb t.first q.day
 
--- the table of types after the type at place i
-abbrev pub mark_begun : List ℕ → Question → ℕ → List ℕ → List ℕ
-mark_begun b q i t = after_place (λ t. t.csd) q.csd (first_key q) (has_begun q) (λ t m. 1) (type_at b i) t
-
 unfoldable pub types_begun : List ℕ → Question → ℕ → Bool
 types_begun b q = keys (λ t. t.csd) q.csd (type_at b) (first_key q) (has_begun q) begun_keys type_places
 
@@ -55,11 +58,6 @@ ruled_key r = rule_key r.number r.sequence
 unfoldable pub new_matches : Question → (ℕ → Bool) → (ℕ → Bool) → Rule → Bool
 unfolding rule_new
 new_matches q begun rows r = eqb r.object q.object && (rule_new q begun r && rows (ruled_key r))
-
--- the table of new rules with a matching row, after the rule at place i
-abbrev pub mark_new : List ℕ → Question → (ℕ → Bool) → (ℕ → Bool) → ℕ → List ℕ → List ℕ
-mark_new b q begun rows i t =
-    after_place (λ r. r.csd) q.csd ruled_key (new_matches q begun rows) (λ r m. 1) (rule_at b i) t
 
 unfoldable pub new_rules : List ℕ → Question → (ℕ → Bool) → (ℕ → Bool) → ℕ → Bool
 new_rules b q begun rows =

@@ -4,79 +4,75 @@
 #![tactic(auto)]
 
 ghost use Rattle.std.specs.Prelude.{◌≡◌, length};
-ghost use Rattle.tables.specs.Keyed.{marked, Blank};
-ghost use Rattle.newrules.specs.NewRules.{begun_key, begun_keys, first_key, has_begun, mark_begun, types_begun, rule_new, new_matches, mark_new, NewMarked};
+ghost use Rattle.tables.specs.Keyed.{marked};
+ghost use Rattle.newrules.specs.NewRules.{time_of, begun_key, first_key, has_begun, types_begun, rule_new, ruled_key, new_matches, NewMarked};
 
-use basics::{and, or, pick_byte};
 use commands::Question;
-use marks::{clear, is_marked, store};
+use marks::{blank, is_marked, key};
 use matching::rule_key;
-use owners::{next_rule, next_type};
+use passes::{Pass, run};
 use places::{RestrictionType, Rule};
+
+// The keys of a type, one for each time when it may have begun, and 0.
+const TIMES: usize = 3;
 
 // The size of the table of types.
 const BEGUN_KEYS: usize = 300;
 
 // When a type began: on the question's day, or before it.
-const ON_THE_DAY: u8 = 1;
-
-const BEFORE: u8 = 2;
-
-fn begun_key(number: u8, when: u8) -> usize
-    ensures { result ≡ begun_key number when }
-{
-    number as usize * 3 + when as usize
+#[derive(Clone, Copy)]
+pub enum Begun {
+    OnTheDay = 1,
+    Before = 2,
 }
 
-// A table without a mark, in a function of its own, so that no proof shows its cells.
-
-fn none_begun() -> [u8; BEGUN_KEYS]
-    ensures { Blank begun_keys result }
+fn begun_key(number: u8, when: Begun) -> usize
+    ensures { result ≡ begun_key number (time_of when) }
 {
-    [0; BEGUN_KEYS]
+    key::<TIMES>(u32::from(number), when as u8)
 }
 
 // 1. The types that began on the day or before it.
 
-// The key of a type with when it began.
-fn first_key(q: Question, t: RestrictionType) -> usize
-    ensures { result ≡ first_key q t }
-{
-    let when = pick_byte(t.first == q.day, ON_THE_DAY, BEFORE);
-    begun_key(t.number, when)
+// The marks of when each type began, of those that have.
+#[derive(Clone, Copy)]
+struct BegunTypes {
+    q: Question,
 }
 
-// A type of the question's object that does not begin after the day.
-fn has_begun(q: Question, t: RestrictionType) -> bool
-    ensures { result ≡ has_begun q t }
-{
-    and(t.object == q.object, t.first <= q.day)
-}
+impl Pass for BegunTypes {
+    type Record = RestrictionType;
 
-// Marks when the type at a place began, if it has.
-fn mark_begun(t: &mut [u8], b: &[u8], q: Question, i: u16)
-    ensures { t.new ≡ mark_begun b.now q i t.old }
-{
-    if places::type_csd(b, i) == q.csd {
-        let r = places::type_at(b, i);
-        let key = first_key(q, r);
-        store(t, key, has_begun(q, r), 1);
+    ghost on = { λ s t. has_begun s.q t };
+
+    ghost key = { λ s t. first_key s.q t };
+
+    ghost entry = { λ s t m. 1 };
+
+    // A type of the question's object that does not begin after the day.
+    #[tactic(auto, unfolding(crate::specs::NewRules::has_begun))]
+    fn is_on(&self, t: RestrictionType) -> bool {
+        t.object == self.q.object && t.first <= self.q.day
+    }
+
+    fn key(&self, t: RestrictionType) -> usize {
+        if t.first == self.q.day {
+            begun_key(t.number, Begun::OnTheDay)
+        } else {
+            begun_key(t.number, Begun::Before)
+        }
+    }
+
+    fn entry(&self, _t: RestrictionType, _before: u8) -> u8 {
+        1
     }
 }
 
 fn types_begun(b: &[u8], q: Question) -> [u8; BEGUN_KEYS]
     ensures { marked result ≡ types_begun b.now q }
 {
-    let mut t = none_begun();
-    let mut i: u16 = 0;
-    while i < RestrictionType::PLACES {
-        let k = next_type(b, i, q.csd);
-        if k == RestrictionType::PLACES {
-            return t;
-        }
-        mark_begun(&mut t, b, q, k);
-        i = k + 1;
-    }
+    let mut t: [u8; BEGUN_KEYS] = blank();
+    run(&BegunTypes { q }, &mut t, b, q.csd);
     t
 }
 
@@ -87,42 +83,41 @@ fn types_begun(b: &[u8], q: Question) -> [u8; BEGUN_KEYS]
 fn is_new(q: Question, begun: &[u8], r: Rule) -> bool
     ensures { result ≡ rule_new q (marked begun.now) r }
 {
-    let on_the_day = is_marked(begun, begun_key(r.number, ON_THE_DAY));
-    let before = is_marked(begun, begun_key(r.number, BEFORE));
-    or(on_the_day, and(before, r.first == q.day))
+    let on_the_day = is_marked(begun, begun_key(r.number, Begun::OnTheDay));
+    let before = is_marked(begun, begun_key(r.number, Begun::Before));
+    on_the_day | before & (r.first == q.day)
 }
 
-// A new rule of the question's object of which a row matches.
-fn new_matches(q: Question, begun: &[u8], rows: &[u8], r: Rule) -> bool
-    ensures { result ≡ new_matches q (marked begun.now) (marked rows.now) r }
-{
-    let matched = is_marked(rows, rule_key(r.number, r.sequence));
-    and(r.object == q.object, and(is_new(q, begun, r), matched))
+// The marks of the new rules of which a row matches, by when each type began and the rules of which a row matches.
+#[derive(Clone, Copy)]
+struct NewRules<'a> {
+    q: Question,
+    begun: &'a [u8],
+    rows: &'a [u8],
 }
 
-// Marks the rule at a place, if it is new and matches.
-fn mark_new(t: &mut [u8], b: &[u8], q: Question, begun: &[u8], rows: &[u8], i: u16)
-    ensures { t.new ≡ mark_new b.now q (marked begun.now) (marked rows.now) i t.old }
-{
-    if places::rule_csd(b, i) == q.csd {
-        let r = places::rule_at(b, i);
-        let key = rule_key(r.number, r.sequence);
-        store(t, key, new_matches(q, begun, rows, r), 1);
+impl<'a> Pass for NewRules<'a> {
+    type Record = Rule;
+
+    ghost on = { λ s r. new_matches s.q (marked s.begun.now) (marked s.rows.now) r };
+
+    ghost key = { λ s r. ruled_key r };
+
+    ghost entry = { λ s r m. 1 };
+
+    // A new rule of the question's object of which a row matches. By `&`: each test is a call, and the proof takes them
+    // together.
+    fn is_on(&self, r: Rule) -> bool {
+        let matched = is_marked(self.rows, rule_key(r.number, r.sequence));
+        (r.object == self.q.object) & (is_new(self.q, self.begun, r) & matched)
     }
-}
 
-fn new_rules(t: &mut [u8], b: &[u8], q: Question, begun: &[u8], rows: &[u8])
-    requires { Blank (length t.old) t.old }
-    ensures { NewMarked (length t.old) b.now q (marked begun.now) (marked rows.now) t.new }
-{
-    let mut i: u16 = 0;
-    while i < Rule::PLACES {
-        let k = next_rule(b, i, q.csd);
-        if k == Rule::PLACES {
-            return;
-        }
-        mark_new(t, b, q, begun, rows, k);
-        i = k + 1;
+    fn key(&self, r: Rule) -> usize {
+        rule_key(r.number, r.sequence)
+    }
+
+    fn entry(&self, _r: Rule, _before: u8) -> u8 {
+        1
     }
 }
 
@@ -131,6 +126,10 @@ pub fn mark_new_rules(t: &mut [u8], b: &[u8], q: Question, rows: &[u8])
     ensures { NewMarked (length t.old) b.now q (types_begun b.now q) (marked rows.now) t.new }
 {
     let begun = types_begun(b, q);
-    clear(t);
-    new_rules(t, b, q, &begun, rows);
+    let new = NewRules {
+        q,
+        begun: &begun,
+        rows,
+    };
+    run(&new, t, b, q.csd);
 }

@@ -9,9 +9,10 @@ use borrow.Author.Tests.{eq-eqb, ne_eqb, ltb-true, ltb-false, le-leb, lt-leb}
 use Rattle.tables.proofs.Counts.{cases, cases_eq}
 use mathlib.Core.List.{List}
 use lib.Dec.{eqb}
-use Rattle.tables.specs.Bytes.{byte_at}
-use Rattle.places.specs.Layout.{type_places, type_base, type_width, type_at, rule_places, rule_base, rule_width, rule_at, row_places, row_base, row_width, row_at, period_places, period_base, period_width, period_at, instruction_places, instruction_base, instruction_width, instruction_at}
-use Rattle.owners.specs.Next.{first_from, next, Passed, owned, next_type, next_rule, next_row, next_period, next_instruction}
+use Rattle.std.specs.Prelude.{Some, None}
+use Rattle.std.proofs.lemmas.Bool.{lt-ltb, le-ltb}
+use Rattle.tables.specs.Bytes.{byte_at, Width, one, number, numbers}
+use Rattle.owners.specs.Next.{first_from, next, Passed, owned, place_if}
 
 module _ (p : ℕ → Bool) where
   -- ---- how it is found
@@ -109,9 +110,9 @@ seven j w l = let a : j ≤ 7 = omega arith in let b : w ≤ w = omega arith in 
 
 -- ---- what `eight_passed` leaves to show
 
-pub eight_passed : (b : List ℕ) (start width a i at r : ℕ) → r ≡ first_from (λ j. eqb (byte_at b (at + j * width)) a) 0 8
+eight_passed_at : (b : List ℕ) (start width a i at r : ℕ) → r ≡ first_from (λ j. eqb (byte_at b (at + j * width)) a) 0 8
     → at ≡ start + i * width → (r ≤ 8) × Passed (owned b start width a) i (i + r)
-eight_passed b start width a i at r e f = (
+eight_passed_at b start width a i at r e f = (
   omega (arith, e, first_high p 0 8),
   λ k low high.
       ap (λ x. eqb (byte_at b x) a) (here k low)
@@ -127,6 +128,11 @@ eight_passed b start width a i at r e f = (
         let m : k * width ≡ i * width + (k - i) * width = ap (λ x. x * width) s ∙ add-mul i (k - i) width in
         omega (arith, f, m)
 
+pub eight_passed : (b : List ℕ) (start width a i at w r : ℕ)
+    → r ≡ first_from (λ j. eqb (byte_at b (at + j * w)) a) 0 8 → at ≡ start + i * width → w ≡ width
+    → (r ≤ 8) × Passed (owned b start width a) i (i + r)
+eight_passed b start width a i at w r e f s = eight_passed_at b start width a i at r (rw s at e) f
+
 -- ---- what `next` leaves to show: x is read at the address of place k
 
 module _ (b : List ℕ) (start width a k at x : ℕ) (e : x ≡ byte_at b at) (f : at ≡ start + k * width) where
@@ -136,29 +142,53 @@ module _ (b : List ℕ) (start width a k at x : ℕ) (e : x ≡ byte_at b at) (f
   pub other_place : (x ≡ a → ⊥) → owned b start width a k ≡ false
   other_place s = ap (λ y. eqb (byte_at b y) a) (sym f) ∙ ne_eqb (byte_at b at) a (λ z. s (e ∙ z))
 
--- ---- for each table: a place's first byte is its depository
+-- ---- of a table: a place's first byte is its depository
 
-same : (p q : ℕ → Bool) (places i : ℕ) → ((k : ℕ) → p k ≡ q k) → next p places i ≡ next q places i
-same p q places i h = ap (λ f. next f places i) (fun_ext h)
+module _ {P : Type 0} (csd : P → ℕ) (at : List ℕ → ℕ → P) (from : List ℕ → P) (widths : List Width) (start width : ℕ)
+    (reads : (b : List ℕ) (i : ℕ) → at b i ≡ from (numbers widths b (start + i * width) 0))
+    (first : (b : List ℕ) (a : ℕ) → csd (from (numbers widths b a 0)) ≡ number one b a 0) where
+  pub next_of : (b : List ℕ) (a places i : ℕ) → next (owned b start width a) places i ≡ next (λ k. eqb (csd (at b k)) a) places i
+  next_of b a places i =
+      ap (λ f. next f places i)
+      (fun_ext (λ k. ap (λ x. eqb x a) (sym (ap csd (reads b k) ∙ first b (start + k * width) ∙ here b (start + k * width)))))
+    where
+      here : (b : List ℕ) (k : ℕ) → number one b k 0 ≡ byte_at b k
+      here b k = let e : k + 0 ≡ k = omega arith in ap (byte_at b) e
 
-module _ (b : List ℕ) (a i r : ℕ) where
-  pub next_type_lem : r ≡ next (owned b type_base type_width a) type_places i → r ≡ next_type b a i
-  unfolding next_type type_at
-  next_type_lem e = e ∙ same _ (λ k. eqb (type_at b k).csd a) type_places i (λ k. ap (λ x. eqb (byte_at b x) a) (omega arith))
+-- ---- the place, if the table has it
 
-  pub next_rule_lem : r ≡ next (owned b rule_base rule_width a) rule_places i → r ≡ next_rule b a i
-  unfolding next_rule rule_at
-  next_rule_lem e = e ∙ same _ (λ k. eqb (rule_at b k).csd a) rule_places i (λ k. ap (λ x. eqb (byte_at b x) a) (omega arith))
+pub place_some : (places k n : ℕ) → Some k ≡ place_if places n → (k ≡ n) × (n < places)
+unfolding place_if
+place_some places k n e =
+    cases (ltb n places) (λ t. let f = rw t at e in (cc, ltb-true n places t)) (λ t. let f = rw t at e in cc)
 
-  pub next_row_lem : r ≡ next (owned b row_base row_width a) row_places i → r ≡ next_row b a i
-  unfolding next_row row_at
-  next_row_lem e = e ∙ same _ (λ k. eqb (row_at b k).csd a) row_places i (λ k. ap (λ x. eqb (byte_at b x) a) (omega arith))
+pub place_none : (places n : ℕ) → None ≡ place_if places n → places ≤ n
+unfolding place_if
+place_none places n e = cases (ltb n places) (λ t. let f = rw t at e in cc) (λ t. ltb-false n places t)
 
-  pub next_period_lem : r ≡ next (owned b period_base period_width a) period_places i → r ≡ next_period b a i
-  unfolding next_period period_at
-  next_period_lem e = e ∙ same _ (λ k. eqb (period_at b k).csd a) period_places i (λ k. ap (λ x. eqb (byte_at b x) a) (omega arith))
+pub place_at : (places n : ℕ) → n < places → Some n ≡ place_if places n
+unfolding place_if
+place_at places n l = rw (lt-ltb n places l)
 
-  pub next_instruction_lem : r ≡ next (owned b instruction_base instruction_width a) instruction_places i → r ≡ next_instruction b a i
-  unfolding next_instruction instruction_at
-  next_instruction_lem e =
-      e ∙ same _ (λ k. eqb (instruction_at b k).csd a) instruction_places i (λ k. ap (λ x. eqb (byte_at b x) a) (omega arith))
+pub place_out : (places n : ℕ) → places ≤ n → None ≡ place_if places n
+unfolding place_if
+place_out places n l = rw (le-ltb n places l)
+
+pub place_found : (places k n m : ℕ) → k < places → k ≡ n → n ≡ m → Some k ≡ place_if places m
+place_found places k n m l e f = place_at places k l ∙ ap (place_if places) (e ∙ f)
+
+pub place_lost : (places n m : ℕ) → places ≡ n → n ≡ m → None ≡ place_if places m
+place_lost places n m e f = place_out places m (omega arith)
+
+-- a place that is found from place i on is none before
+pub place_from : (p : ℕ → Bool) (places i k : ℕ) → Some k ≡ place_if places (next p places i) → (i ≤ k) × (k < places)
+unfolding next
+place_from p places i k e =
+    let f : (k ≡ next p places i) × (next p places i < places) = place_some places k (next p places i) e in (
+      cases (ltb places i) (λ t. absurd (omega (arith, f.0, f.1, beyond t)))
+          (λ t. omega (arith, f.0, next_low p places i (ltb-false places i t))),
+      omega (arith, f.0, f.1),
+    )
+  where
+    beyond : ltb places i ≡ true → next p places i ≡ places
+    beyond t = rw (lt-leb i places (ltb-true places i t))

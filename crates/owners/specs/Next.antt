@@ -1,7 +1,6 @@
 -- Which place of a table is a depository's next. A free place is depository 0's. Assumes nothing.
-use Rattle.std.specs.Prelude.{ℕ, zero, suc, ◌+◌, ◌*◌, ◌-◌, ◌≤◌, ◌<◌, ◌≡◌, Bool, false, cond, List, eqb, leb}
+use Rattle.std.specs.Prelude.{ℕ, zero, suc, ◌+◌, ◌*◌, ◌-◌, ◌≤◌, ◌<◌, ◌≡◌, Bool, false, cond, List, eqb, leb, ltb, Option, Some, None}
 use Rattle.tables.specs.Bytes.{byte_at}
-use Rattle.places.specs.Layout.{type_places, type_at, rule_places, rule_at, row_places, row_at, period_places, period_at, instruction_places, instruction_at}
 
 -- the first of n places from place i on where p holds; i + n where there is none
 unfoldable pub first_from : (ℕ → Bool) → ℕ → ℕ → ℕ
@@ -21,19 +20,6 @@ Passed p i k = (j : ℕ) → i ≤ j → j < k → p j ≡ false
 abbrev pub owned : List ℕ → ℕ → ℕ → ℕ → ℕ → Bool
 owned b start width a k = eqb (byte_at b (start + k * width)) a
 
--- ---- for each table
-
-unfoldable pub next_type : List ℕ → ℕ → ℕ → ℕ
-next_type b a i = next (λ k. eqb (type_at b k).csd a) type_places i
-
-unfoldable pub next_rule : List ℕ → ℕ → ℕ → ℕ
-next_rule b a i = next (λ k. eqb (rule_at b k).csd a) rule_places i
-
-unfoldable pub next_row : List ℕ → ℕ → ℕ → ℕ
-next_row b a i = next (λ k. eqb (row_at b k).csd a) row_places i
-
-unfoldable pub next_period : List ℕ → ℕ → ℕ → ℕ
-next_period b a i = next (λ k. eqb (period_at b k).csd a) period_places i
-
-unfoldable pub next_instruction : List ℕ → ℕ → ℕ → ℕ
-next_instruction b a i = next (λ k. eqb (instruction_at b k).csd a) instruction_places i
+-- place k of a table of that many places, if it has it
+unfoldable pub place_if : ℕ → ℕ → Option ℕ
+place_if places k = cond (ltb k places) (Some k) None

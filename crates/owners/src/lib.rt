@@ -1,15 +1,18 @@
-// Which place of each table is a depository's next. The places of others, and the free ones, are passed by their first
-// byte, eight at once.
+// Which places of a table are a depository's. The places of others, and the free ones, are passed by their first byte,
+// eight at once.
 #![tactic(auto)]
 
-ghost use Rattle.std.specs.Prelude.{◌≡◌, ◌+◌, ◌*◌, ◌<◌, ◌≤◌, eqb, length};
+ghost use Rattle.std.specs.Prelude.{◌≡◌, ◌+◌, ◌*◌, ◌-◌, ◌<◌, ◌≤◌, eqb, length, MatchOption};
+ghost use Rattle.std.specs.Iterator.{at_most};
 ghost use Rattle.tables.specs.Bytes.{byte_at};
-ghost use Rattle.owners.specs.Next.{first_from, owned, next, Passed, next_type, next_rule, next_row, next_period, next_instruction};
+ghost use Rattle.owners.specs.Next.{first_from, owned, next, Passed, place_if};
 
 use basics::byte_at;
-use places::{Kept, Period, RestrictionType, Row, Rule, address};
+use places::{Place, address};
+use std::marker::PhantomData;
 
-// Which of eight places, the first at an address, is the first of depository a; 8 where none is.
+// Which of eight places, the first at an address, is the first of depository a; 8 where none is, which is how many are
+// passed then, and so no Option.
 fn first_of_eight(b: &[u8], at: usize, width: u8, a: u8) -> u16
     requires { at + 7 * width < length b.now }
     ensures { result ≡ first_from (λ j. eqb (byte_at b.now (at + j * width)) a) 0 8 }
@@ -23,10 +26,11 @@ fn first_of_eight(b: &[u8], at: usize, width: u8, a: u8) -> u16
 }
 
 // How many places from place i on are passed at once: up to 8, none where the book ends before the eighth.
-fn eight_passed(b: &[u8], i: u16, start: u16, width: u8, a: u8) -> u16
-    ensures { (result ≤ 8) × Passed (owned b.now start width a) i (i + result) }
+fn eight_passed<P: Place>(b: &[u8], i: u16, a: u8) -> u16
+    ensures { (result ≤ 8) × Passed (owned b.now P.START P.WIDTH a) i (i + result) }
 {
-    let at = address(start, width, i) as usize;
+    let at = address::<P>(i) as usize;
+    let width = P::WIDTH;
     if at + 7 * (width as usize) < b.len() {
         return first_of_eight(b, at, width, a);
     }
@@ -34,13 +38,13 @@ fn eight_passed(b: &[u8], i: u16, start: u16, width: u8, a: u8) -> u16
 }
 
 // A place from i on, up to which no place is depository a's: it is the first that is, or fewer than eight are left, or
-// the book ends.
-fn pass(b: &[u8], i: u16, start: u16, width: u8, places: u16, a: u8) -> u16
-    ensures { (i ≤ result) × Passed (owned b.now start width a) i result }
+// the book ends. The loop stays: it goes on by eight, and where it ends is the answer.
+fn pass<P: Place>(b: &[u8], i: u16, a: u8) -> u16
+    ensures { (i ≤ result) × Passed (owned b.now P.START P.WIDTH a) i result }
 {
     let mut k = i;
-    while k as u32 + 8 <= places as u32 {
-        let n = eight_passed(b, k, start, width, a);
+    while k as u32 + 8 <= P::PLACES as u32 {
+        let n = eight_passed::<P>(b, k, a);
         if n < 8 {
             return k + n;
         }
@@ -49,53 +53,58 @@ fn pass(b: &[u8], i: u16, start: u16, width: u8, places: u16, a: u8) -> u16
     k
 }
 
-fn next(b: &[u8], i: u16, start: u16, width: u8, places: u16, a: u8) -> u16
-    ensures { result ≡ next (owned b.now start width a) places i }
+// The first place from place i on that is depository a's. A free place is depository 0's.
+pub fn next<P: Place>(b: &[u8], i: u16, a: u8) -> Option<u16>
+    ensures { result ≡ place_if P.PLACES (next (λ k. eqb (P.csd (P.at b.now k)) a) P.PLACES i) }
 {
-    let from = pass(b, i, start, width, places, a);
-    for k in from..places {
-        if byte_at(b, address(start, width, k) as usize) == a {
-            return k;
+    let from = pass::<P>(b, i, a);
+    for k in from..P::PLACES {
+        if byte_at(b, address::<P>(k) as usize) == a {
+            return Some(k);
         }
     }
-    places
+    None
 }
 
-// The first place from place i on that is depository a's; PLACES where there is none. A free place is depository 0's.
+// The places of depository a, in rising order; those before place i were given.
+#[derive(Drop)]
+pub struct PlacesOf<'a, P> {
+    pub b: &'a [u8],
+    pub a: u8,
+    pub i: u16,
+    pub table: PhantomData<P>,
+}
 
-pub fn next_type(b: &[u8], i: u16, a: u8) -> u16
-    ensures { result ≡ next_type b.now a i }
+pub fn places_of<P: Place>(b: &[u8], a: u8) -> PlacesOf<'_, P>
+    ensures { (result.b.now ≡ b.now) × (result.a ≡ a) × (result.i ≡ 0) }
 {
-    next(
+    PlacesOf {
         b,
-        i,
-        RestrictionType::START,
-        RestrictionType::WIDTH,
-        RestrictionType::PLACES,
         a,
-    )
+        i: 0,
+        table: PhantomData,
+    }
 }
 
-pub fn next_rule(b: &[u8], i: u16, a: u8) -> u16
-    ensures { result ≡ next_rule b.now a i }
-{
-    next(b, i, Rule::START, Rule::WIDTH, Rule::PLACES, a)
-}
+impl<'a, P: Place> Iterator for PlacesOf<'a, P> {
+    type Item = u16;
 
-pub fn next_row(b: &[u8], i: u16, a: u8) -> u16
-    ensures { result ≡ next_row b.now a i }
-{
-    next(b, i, Row::START, Row::WIDTH, Row::PLACES, a)
-}
+    ghost next_gives = { λ s r t. (r ≡ place_if P.PLACES (next (λ k. eqb (P.csd (P.at s.b.now k)) s.a) P.PLACES s.i))
+        × (t.b ≡ s.b) × (t.a ≡ s.a) × MatchOption r (t.i ≡ P.PLACES) (λ k. t.i ≡ k + 1) };
 
-pub fn next_period(b: &[u8], i: u16, a: u8) -> u16
-    ensures { result ≡ next_period b.now a i }
-{
-    next(b, i, Period::START, Period::WIDTH, Period::PLACES, a)
-}
+    ghost remaining = { λ s. at_most (P.PLACES - s.i) };
 
-pub fn next_instruction(b: &[u8], i: u16, a: u8) -> u16
-    ensures { result ≡ next_instruction b.now a i }
-{
-    next(b, i, Kept::START, Kept::WIDTH, Kept::PLACES, a)
+    fn next(&mut self) -> Option<u16> {
+        let places = P::PLACES;
+        match next::<P>(self.b, self.i, self.a) {
+            Some(k) => {
+                self.i = k + 1;
+                Some(k)
+            }
+            None => {
+                self.i = places;
+                None
+            }
+        }
+    }
 }

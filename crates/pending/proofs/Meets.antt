@@ -1,10 +1,10 @@
 -- What the code makes of one instruction is what the written meaning does.
 use Prim.Native.Nat.{ℕ}
 use mathlib.Core.Path.{◌≡◌, refl, ap, ap₂, ◌∙◌, fun_ext}
-use mathlib.Core.Bool.{Bool, true, not, cond}
+use mathlib.Core.Bool.{Bool, true, false, cond}
 use mathlib.Core.List.{List}
-use mathlib.Core.Option.{some, none}
-use lib.Dec.{eqb}
+use Rattle.std.specs.Prelude.{Option, Some, None}
+use borrow.Author.Tests.{ne_eqb}
 use lib.ListN.{replicate}
 use Rattle.tables.specs.Keyed.{marked}
 use Rattle.meaning.specs.Records as M
@@ -14,7 +14,6 @@ use Rattle.meaning.specs.Scope.{scoped}
 use Rattle.meaning.specs.Sound.{sound_lone}
 use Rattle.meaning.specs.Pending.{held_since, is_held, since, asking, met, fresh, entered, start_verdict, start_exempted, started, released}
 use Rattle.meaning.specs.declared.Verdict.{Verdict}
-use Rattle.meaning.specs.declared.Deciding.{Deciding}
 use Rattle.memory.specs.Remembered.{spare_clear, type_bits, with_types}
 use Rattle.memory.proofs.Remembering.{none_remembered, types_put, marks_among}
 use Rattle.places.specs.declared.Kept.{Kept}
@@ -28,15 +27,18 @@ use Rattle.judge.specs.declared.Scope.{Scope}
 use Rattle.judge.proofs.VerdictRight.{judged_right, judged_within_lem}
 use Rattle.judge.proofs.ExemptedRight.{exempted_within_lem}
 use Rattle.judge.proofs.Starting.{whole_judged, whole_exempted, at_start_lem}
-use Rattle.pending.specs.OnBytes.{asking_at, fresh_at, kept_with, met_by, entered_by, scope_at, started_by, released_at, left_of, Remembering, Entered}
-use Rattle.pending.specs.declared.Met.{Met}
+use Rattle.pending.specs.OnBytes.{asking_at, fresh_at, kept_with, kept_by, met_by, entered_by, scope_at, started_by, released_at, left_of, Remembering, Entered}
 
 -- ---- what is left, with its days and types
 
 pub met_said : (k : Kept) (day : ℕ) (v : Verdict) (exempt : ℕ → Bool) → Remembering k
-    → instruction_of (met_by k day v exempt).left ≡ met v exempt day (instruction_of k)
-unfolding met_by met instruction_of
+    → instruction_of (kept_by k day v exempt) ≡ met v exempt day (instruction_of k)
+unfolding kept_by met instruction_of
 met_said k day v exempt r = rw (types_put k.remembered exempt r.long r.clear)
+
+left_by : (t : Bool) (k : Kept) → left_of (cond t None (Some k)) ≡ cond t None (Some (instruction_of k))
+left_by true k = refl
+left_by false k = refl
 
 -- ---- S
 
@@ -54,15 +56,14 @@ fresh_said reference q = rw none_remembered
 
 pub entered_right : (b : List ℕ) (reference : ℕ) (q : Question) → sound_lone (lone_book q.csd b) ≡ true
     → Entered (lone_book q.csd b) reference (question_of q) (entered_by b reference q)
-unfolding entered_by entered
+unfolding entered_by met_by entered
 entered_right b reference q z =
-    let v = judged_right b q z in
-    record {
-      rejected = ap (λ x. x.rejected) v;
-      kept = met_said (fresh_at reference q) q.day (judged_by b q) (exempted_within b q whole) (fresh_remembers reference q)
-          ∙ ap (met (judged_by b q) (exempted_within b q whole) q.day) (fresh_said reference q)
-          ∙ ap₂ (λ x e. met x e q.day (fresh reference (question_of q))) v (whole_exempted b q z);
-    }
+    left_by (judged_by b q).rejected (kept_by (fresh_at reference q) q.day (judged_by b q) (exempted_within b q whole))
+    ∙ ap (λ x. cond (judged_by b q).rejected None (Some x))
+    (met_said (fresh_at reference q) q.day (judged_by b q) (exempted_within b q whole) (fresh_remembers reference q)
+    ∙ ap (met (judged_by b q) (exempted_within b q whole) q.day) (fresh_said reference q))
+    ∙ ap₂ (λ x e. cond x.rejected None (Some (met x e q.day (fresh reference (question_of q))))) (judged_right b q z)
+    (whole_exempted b q z)
 
 -- ---- W
 
@@ -89,9 +90,11 @@ module _ (b : List ℕ) (k : Kept) (day : ℕ) (z : sound_lone (lone_book k.csd 
   pub started_right : left_of (started_by b k day) ≡ started m day i
   unfolding started_by met_by started
   started_right =
-      ap (λ x. cond (judged_within b (asking_at k day) (scope_at k) (type_bits k.remembered)).rejected none (some x))
+      left_by (judged_within b (asking_at k day) (scope_at k) (type_bits k.remembered)).rejected
+      (kept_by k day (judged_within b (asking_at k day) (scope_at k) (type_bits k.remembered)) (exempted_within b (asking_at k day) (scope_at k)))
+      ∙ ap (λ x. cond (judged_within b (asking_at k day) (scope_at k) (type_bits k.remembered)).rejected None (Some x))
       (met_said k day (judged_within b (asking_at k day) (scope_at k) (type_bits k.remembered)) (exempted_within b (asking_at k day) (scope_at k)) r)
-      ∙ ap₂ (λ v e. cond v.rejected none (some (met v e day i))) verdict_right exempted_right
+      ∙ ap₂ (λ v e. cond v.rejected None (Some (met v e day i))) verdict_right exempted_right
 
 -- ---- L
 
@@ -101,30 +104,28 @@ released_right hold k = refl
 
 -- ---- what the functions return
 
-pub since_by : (day before r : ℕ) (d : Deciding) (t : Bool) → r ≡ cond t day before → t ≡ not (eqb d.number 0)
-    → r ≡ since day before d
-since_by day before r d t e f = rw (e, f)
-
-pub scope_by : (k : Kept) (v h : Bool) → h ≡ not (eqb k.holding 0) → v ≡ not (eqb k.validating 0)
-    → record { fresh = true; validating = v; holding = h } ≡ scope_at k
-scope_by k v h e f = rw (e, f)
-
-pub after_by : (k left : Kept) (day validating holding : ℕ) (v : Verdict) (marks remembered : List ℕ)
-    → left ≡ kept_with k validating holding remembered → remembered ≡ with_types k.remembered (marked marks)
-    → holding ≡ since day k.holding v.party → validating ≡ since day k.validating v.validation
-    → record { rejected = v.rejected; left = left } ≡ met_by k day v (marked marks)
+pub after_rejected : (k : Kept) (day : ℕ) (v : Verdict) (exempt : ℕ → Bool) → v.rejected ≡ true
+    → None ≡ met_by k day v exempt
 unfolding met_by
-after_by k left day validating holding v marks remembered d e f g = rw (d, e, f, g)
+after_rejected k day v exempt h = rw h
 
-pub released_by : (k r : Kept) (hold validating holding : ℕ) → r ≡ kept_with k validating holding k.remembered
-    → holding ≡ cond (eqb hold party_hold) 0 k.holding → validating ≡ cond (eqb hold validation_hold) 0 k.validating
+pub after_by : (k : Kept) (day validating holding : ℕ) (v : Verdict) (marks remembered : List ℕ)
+    → remembered ≡ with_types k.remembered (marked marks) → holding ≡ since day k.holding v.party
+    → validating ≡ since day k.validating v.validation → v.rejected ≡ false
+    → Some (kept_with k validating holding remembered) ≡ met_by k day v (marked marks)
+unfolding met_by kept_by
+after_by k day validating holding v marks remembered e f g h = rw (h, e, f, g)
+
+-- L, by the processing of the hold
+pub released_by : (k r : Kept) (hold : ℕ) → r ≡ released_at hold k
     → (r ≡ released_at hold k) × (instruction_of r ≡ released hold (instruction_of k))
-unfolding released_at
-released_by k r hold validating holding e f g =
-    let s : r ≡ released_at hold k = rw (e, f, g) in
-    (s, ap instruction_of s ∙ released_right hold k)
+released_by k r hold e = (e, ap instruction_of e ∙ released_right hold k)
 
-module _ (b : List ℕ) (x : Met) (v : Verdict) (exempt : ℕ → Bool) where
+pub other_hold : (k : Kept) (hold : ℕ) → (hold ≡ validation_hold → ⊥) → (hold ≡ party_hold → ⊥) → k ≡ released_at hold k
+unfolding released_at
+other_hold k hold a d = rw (ne_eqb hold validation_hold a, ne_eqb hold party_hold d)
+
+module _ (b : List ℕ) (x : Option Kept) (v : Verdict) (exempt : ℕ → Bool) where
   pub entered_by_lem : (reference : ℕ) (q : Question) (k : Kept) (s : Scope) (passed : ℕ → Bool)
       → x ≡ met_by k q.day v exempt → k ≡ fresh_at reference q → v ≡ judged_within b q s passed
       → exempt ≡ exempted_within b q s → s ≡ whole → passed ≡ none_passed

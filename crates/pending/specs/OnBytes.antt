@@ -1,7 +1,6 @@
 -- What S, W and L make of one kept instruction, by the bytes of the lent book; and what that is in the written meaning.
 -- Each definition is of any bytes. Assumes nothing.
-use Rattle.std.specs.Prelude.{ℕ, ◌≡◌, Bool, true, not, cond, List, eqb, length, replicate}
-use Rattle.std.proofs.Math.Option.{Option, some, none}
+use Rattle.std.specs.Prelude.{ℕ, ◌≡◌, Bool, true, not, cond, List, eqb, length, replicate, Option, Some, None}
 use Rattle.meaning.specs.Records as M
 use Rattle.meaning.specs.Records.{validation_hold, party_hold}
 use Rattle.meaning.specs.Judging.{judged}
@@ -14,7 +13,6 @@ use Rattle.commands.specs.declared.Question.{Question}
 use Rattle.judge.specs.Stages.{judged_by}
 use Rattle.judge.specs.Within.{whole, judged_within, exempted_within}
 use Rattle.judge.specs.declared.Scope.{Scope}
-use Rattle.pending.specs.declared.Met.{Met}
 
 -- the question that a kept instruction is on a day
 abbrev pub asking_at : Kept → ℕ → Question
@@ -70,15 +68,18 @@ kept_with k validating holding remembered = record {
   remembered = remembered;
 }
 
--- by a verdict on a day and the types exempted
-unfoldable pub met_by : Kept → ℕ → Verdict → (ℕ → Bool) → Met
-met_by k day v exempt = record {
-  rejected = v.rejected;
-  left = kept_with k (since day k.validating v.validation) (since day k.holding v.party) (with_types k.remembered exempt);
-}
+-- what is left by a verdict on a day and the types exempted
+unfoldable pub kept_by : Kept → ℕ → Verdict → (ℕ → Bool) → Kept
+kept_by k day v exempt =
+    kept_with k (since day k.validating v.validation) (since day k.holding v.party) (with_types k.remembered exempt)
+
+-- if anything is left
+unfoldable pub met_by : Kept → ℕ → Verdict → (ℕ → Bool) → Option Kept
+unfolding kept_by
+met_by k day v exempt = cond v.rejected None (Some (kept_by k day v exempt))
 
 -- S is judged as a question is
-unfoldable pub entered_by : List ℕ → ℕ → Question → Met
+unfoldable pub entered_by : List ℕ → ℕ → Question → Option Kept
 unfolding met_by
 entered_by b reference q = met_by (fresh_at reference q) q.day (judged_by b q) (exempted_within b q whole)
 
@@ -87,7 +88,7 @@ abbrev pub scope_at : Kept → Scope
 scope_at k = record { fresh = true; validating = not (eqb k.validating 0); holding = not (eqb k.holding 0) }
 
 -- W, of one instruction
-unfoldable pub started_by : List ℕ → Kept → ℕ → Met
+unfoldable pub started_by : List ℕ → Kept → ℕ → Option Kept
 unfolding met_by
 started_by b k day =
     met_by k day (judged_within b (asking_at k day) (scope_at k) (type_bits k.remembered))
@@ -101,15 +102,15 @@ released_at hold k =
 -- ---- in the written meaning
 
 -- what is left of an instruction, if anything
-abbrev pub left_of : Met → Option M.Kept
-left_of r = cond r.rejected none (some (instruction_of r.left))
+abbrev pub left_of : Option Kept → Option M.Kept
+left_of None = None
+left_of (Some k) = Some (instruction_of k)
 
 -- thirteen bytes, of which no bit is on that is no type's, as in every sound record
 pub record Remembering (k : Kept) : Type 0 where
   pub long : length k.remembered ≡ 13
   pub clear : spare_clear k.remembered ≡ true
 
--- what S answers and keeps
-pub record Entered (m : M.Book) (reference : ℕ) (q : M.Question) (r : Met) : Type 0 where
-  pub rejected : r.rejected ≡ (judged m q).rejected
-  pub kept : instruction_of r.left ≡ entered m reference q
+-- what S keeps: nothing of a question that is rejected
+abbrev pub Entered : M.Book → ℕ → M.Question → Option Kept → Type 0
+Entered m reference q r = left_of r ≡ cond (judged m q).rejected None (Some (entered m reference q))

@@ -17,6 +17,9 @@ book_size = 51200
 abbrev pub type_places : ℕ
 type_places = 128
 
+abbrev pub type_quota : ℕ
+type_quota = 16
+
 abbrev pub type_base : ℕ
 type_base = 0
 
@@ -57,6 +60,9 @@ zero_type = record { csd = 0; number = 0; object = 0; processing = 0; first = 0;
 
 abbrev pub rule_places : ℕ
 rule_places = 512
+
+abbrev pub rule_quota : ℕ
+rule_quota = 64
 
 abbrev pub rule_base : ℕ
 rule_base = 1536
@@ -101,6 +107,9 @@ zero_rule = record { csd = 0; number = 0; object = 0; sequence = 0; sign = 0; cr
 abbrev pub row_places : ℕ
 row_places = 1024
 
+abbrev pub row_quota : ℕ
+row_quota = 128
+
 abbrev pub row_base : ℕ
 row_base = 9216
 
@@ -142,6 +151,9 @@ zero_row = record { csd = 0; number = 0; object = 0; sequence = 0; values = repl
 abbrev pub period_places : ℕ
 period_places = 1024
 
+abbrev pub period_quota : ℕ
+period_quota = 128
+
 abbrev pub period_base : ℕ
 period_base = 35840
 
@@ -182,6 +194,9 @@ zero_period = record { csd = 0; kind = 0; number = 0; code = 0; first = 0; last 
 
 abbrev pub instruction_places : ℕ
 instruction_places = 256
+
+abbrev pub instruction_quota : ℕ
+instruction_quota = 32
 
 abbrev pub instruction_base : ℕ
 instruction_base = 51200

@@ -17,6 +17,8 @@ use Rattle.meaning.specs.Nobody.{NamesNobody}
 use Rattle.meaning.specs.Printing.{numbers_of}
 use Rattle.meaning.specs.declared.Answer.{Answer}
 use Rattle.meaning.specs.declared.Answer.TheVariants.{Taken, Refused}
+use Rattle.meaning.specs.declared.Refusal.{Refusal}
+use Rattle.meaning.specs.declared.Refusal.TheVariants.{UnsoundBook}
 use Rattle.meaning.specs.declared.Sent.{Sent}
 use Rattle.meaning.specs.declared.Sent.TheVariants.{Alone, InBatch}
 use Rattle.meaning.proofs.Order.{sent_same}
@@ -69,22 +71,22 @@ some_run book (batch csd text size ∷ calls) =
 
 -- ---- a line that names nobody
 
-refused_untaken : (n : ℕ) → Refused n ≡ Taken → ⊥
+refused_untaken : (r : Refusal) → Refused r ≡ Taken → ⊥
 unfolding numbers_of
-refused_untaken n e = omega (arith, ap (λ x. length (numbers_of x)) e)
+refused_untaken r e = omega (arith, ap (λ x. length (numbers_of x)) e)
 
-untaken : (s : Bool) (n : ℕ) → cond s (Refused n) (Refused 1) ≡ Taken → ⊥
-untaken true n = refused_untaken n
-untaken false n = refused_untaken 1
+untaken : (s : Bool) (r : Refusal) → cond s (Refused r) (Refused UnsoundBook) ≡ Taken → ⊥
+untaken true r = refused_untaken r
+untaken false r = refused_untaken UnsoundBook
 
 pub nobodys_line : NobodysLine
 unfolding answer_in
 nobodys_line line h =
     let u = nobody_refused line h in
     let said : (how : Sent) (b b' : List ℕ) (x : Answer) → SubmittedAs how b line x b'
-    → x ≡ cond (sound b) (Refused u.refusal) (Refused 1) =
+    → x ≡ cond (sound b) (Refused u.refusal) (Refused UnsoundBook) =
     λ how b b' x t.
-    t.answered ∙ ap (λ z. cond (sound b) z.answer (Refused 1)) (u.everywhere how (lone_book (depository line) b)) in
+    t.answered ∙ ap (λ z. cond (sound b) z.answer (Refused UnsoundBook)) (u.everywhere how (lone_book (depository line) b)) in
     record {
       refusal = u.refusal;
       low = omega (arith, u.low);
@@ -154,7 +156,7 @@ sound_alike (next {line = line} {how = how} t r) (next t' r') s s' h =
 
 -- over a book that isn't sound every answer is refusal 1, and every byte stays
 unsound_refused : {b c : List ℕ} {lines : List (Sent × List ℕ)} {as' : List Answer} → Steps b lines as' c
-    → sound b ≡ false → (as' ≡ replicate (length lines) (Refused 1)) × (c ≡ b)
+    → sound b ≡ false → (as' ≡ replicate (length lines) (Refused UnsoundBook)) × (c ≡ b)
 unfolding answer_in left_as_found
 unsound_refused stop s = (refl, refl)
 unsound_refused (next {book = b} {line = line} t r) s =

@@ -12,6 +12,7 @@ use Rattle.meaning.specs.SameBook.{SameBook}
 use Rattle.meaning.specs.Lone.{step_sent, step, names, depository}
 use Rattle.meaning.specs.declared.Answer.{Answer}
 use Rattle.meaning.specs.declared.Answer.TheVariants.{Taken, Refused}
+use Rattle.meaning.specs.declared.Refusal.TheVariants.{UnsoundBook}
 use Rattle.meaning.specs.declared.Sent.{Sent}
 use Rattle.meaning.specs.declared.Sent.TheVariants.{InBatch}
 use Rattle.meaning.proofs.HowSent.{AsAlone, Twelve, alone_or_twelve}
@@ -37,7 +38,7 @@ module _ (how : Sent) (b b' line : List ℕ) (x : Answer) (t : SubmittedAs how b
   alone_singly : AsAlone how line → Submitted b line x b'
   unfolding answer_in lone_after left_as_found step_sent step
   alone_singly y = record {
-    answered = t.answered ∙ ap (λ z. cond (sound b) z.answer (Refused 1)) (y.steps (lone_book (depository line) b));
+    answered = t.answered ∙ ap (λ z. cond (sound b) z.answer (Refused UnsoundBook)) (y.steps (lone_book (depository line) b));
     kept = λ h. t.kept (ap (λ z. not (sound b) || z) (y.left (lone_book (depository line) b)) ∙ h);
     stays = t.stays;
     records = λ s c low high.
@@ -49,7 +50,7 @@ module _ (how : Sent) (b b' line : List ℕ) (x : Answer) (t : SubmittedAs how b
   unfolding answer_in is_twelve
   twelve_answered s y =
       let m = lone_book (depository line) b in
-      let x12 = t.answered ∙ ap (λ z. cond z (step_sent how m line).answer (Refused 1)) s ∙ ap (λ z. z.answer) (y m) in
+      let x12 = t.answered ∙ ap (λ z. cond z (step_sent how m line).answer (Refused UnsoundBook)) s ∙ ap (λ z. z.answer) (y m) in
       ap is_twelve x12
 
   pub singly : is_twelve x ≡ false → Submitted b line x b'

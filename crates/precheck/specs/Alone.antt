@@ -2,7 +2,7 @@
 -- book just emptied: the answers to the lines that count as depository A's are exactly those of A's lone book, which is
 -- fed only these lines and told how each was sent. Stated here, proved in proofs/Alone and proofs/Runs. Assumes
 -- nothing.
-use Rattle.std.specs.Prelude.{ℕ, ◌≤◌, ◌≡◌, Bool, cond, List, [], ◌∷◌, ◌++◌, map, length}
+use Rattle.std.specs.Prelude.{ℕ, ◌≤◌, ◌≡◌, Bool, cond, List, [], ◌∷◌, ◌++◌, map, Result, Ok, length}
 use Rattle.tables.specs.Count.{keep}
 use Rattle.meaning.specs.Batch.{batch_lines}
 use Rattle.meaning.specs.Lone.{told, names, counts, lone_answers, lone_answers_sent}
@@ -10,7 +10,9 @@ use Rattle.meaning.specs.Nobody.{NamesNobody}
 use Rattle.meaning.specs.Status.{status_in}
 use Rattle.meaning.specs.declared.Answer.{Answer}
 use Rattle.meaning.specs.declared.Answer.TheVariants.{Refused}
-use Rattle.meaning.specs.declared.Batch.{Batch}
+use Rattle.meaning.specs.declared.Refusal.{Refusal}
+use Rattle.meaning.specs.declared.Refusal.TheVariants.{UnsoundBook}
+use Rattle.meaning.specs.Refusals.{number_of}
 use Rattle.meaning.specs.declared.Sent.{Sent}
 use Rattle.meaning.specs.declared.Sent.TheVariants.{Alone, InBatch}
 use Rattle.book.specs.Emptied.{Emptied}
@@ -41,7 +43,7 @@ pub data Run : List ℕ → List Call → List Answer → Type 0 where
   done : {book : List ℕ} → Run book [] []
   sent : {book next line : List ℕ} {answer : Answer} {calls : List Call} {answers : List Answer}
       → Submitted book line answer next → Run next calls answers → Run book (single line ∷ calls) (answer ∷ answers)
-  batched : {book next text space space' : List ℕ} {csd size : ℕ} {r : Batch} {calls : List Call}
+  batched : {book next text space space' : List ℕ} {csd size : ℕ} {r : Result ℕ Refusal} {calls : List Call}
       {answers : List Answer} → length space ≡ size → (b : Batched book csd text space r next space')
       → Run next calls answers → Run book (batch csd text size ∷ calls) (b.answers ++ answers)
 
@@ -54,7 +56,7 @@ answers_at p (line ∷ lines) (x ∷ as') = cond (p line) (x ∷ answers_at p li
 -- The claim, about the whole list. A line that names a in a batch of another is one of the other lines.
 abbrev pub OneAlone : Type 0
 OneAlone =
-    (lent emptied : List ℕ) → Emptied lent emptied 0
+    (lent emptied : List ℕ) → Emptied lent emptied (Ok tt)
     → (calls : List Call) (answers : List Answer) → Run emptied calls answers
     → (a : ℕ) → 1 ≤ a → a ≤ 8
     → answers_at (counts a) (stood calls) answers ≡ lone_answers_sent a (stood calls)
@@ -63,7 +65,7 @@ OneAlone =
 -- its answers, whatever the other lines.
 abbrev pub TwoRuns : Type 0
 TwoRuns =
-    (lent lent' emptied emptied' : List ℕ) → Emptied lent emptied 0 → Emptied lent' emptied' 0
+    (lent lent' emptied emptied' : List ℕ) → Emptied lent emptied (Ok tt) → Emptied lent' emptied' (Ok tt)
     → (calls calls' : List Call) (answers answers' : List Answer)
     → Run emptied calls answers → Run emptied' calls' answers'
     → (a : ℕ) → 1 ≤ a → a ≤ 8
@@ -76,7 +78,7 @@ TwoRuns =
 -- book,
 abbrev pub StatusAlone : Type 0
 StatusAlone =
-    (lent emptied : List ℕ) → Emptied lent emptied 0
+    (lent emptied : List ℕ) → Emptied lent emptied (Ok tt)
     → (calls : List Call) (answers : List Answer) → Run emptied calls answers
     → (a : ℕ) → 1 ≤ a → a ≤ 8
     → map status_in (answers_at (counts a) (stood calls) answers) ≡ map status_in (lone_answers_sent a (stood calls))
@@ -85,7 +87,7 @@ StatusAlone =
 -- two runs, so are the statuses of its answers.
 abbrev pub NeighbourStatus : Type 0
 NeighbourStatus =
-    (lent lent' emptied emptied' : List ℕ) → Emptied lent emptied 0 → Emptied lent' emptied' 0
+    (lent lent' emptied emptied' : List ℕ) → Emptied lent emptied (Ok tt) → Emptied lent' emptied' (Ok tt)
     → (calls calls' : List Call) (answers answers' : List Answer)
     → Run emptied calls answers → Run emptied' calls' answers'
     → (a : ℕ) → 1 ≤ a → a ≤ 8
@@ -105,14 +107,14 @@ answers_to a = answers_at (names a)
 
 abbrev pub OneAloneLines : Type 0
 OneAloneLines =
-    (lent emptied : List ℕ) → Emptied lent emptied 0
+    (lent emptied : List ℕ) → Emptied lent emptied (Ok tt)
     → (lines : List (List ℕ)) (answers : List Answer) → Run emptied (singles lines) answers
     → (a : ℕ) → 1 ≤ a → a ≤ 8
     → answers_to a lines answers ≡ lone_answers a lines
 
 abbrev pub TwoRunsLines : Type 0
 TwoRunsLines =
-    (lent lent' emptied emptied' : List ℕ) → Emptied lent emptied 0 → Emptied lent' emptied' 0
+    (lent lent' emptied emptied' : List ℕ) → Emptied lent emptied (Ok tt) → Emptied lent' emptied' (Ok tt)
     → (lines lines' : List (List ℕ)) (answers answers' : List Answer)
     → Run emptied (singles lines) answers → Run emptied' (singles lines') answers'
     → (a : ℕ) → 1 ≤ a → a ≤ 8
@@ -138,11 +140,11 @@ OneAnswer =
 -- A line that names nobody is refused 2 to 5 over every sound book, always alike, however it is sent; over any other 1.
 -- Every byte is left.
 pub record Nobodys (line : List ℕ) : Type 0 where
-  pub refusal : ℕ
-  pub low : 2 ≤ refusal
-  pub high : refusal ≤ 5
+  pub refusal : Refusal
+  pub low : 2 ≤ number_of refusal
+  pub high : number_of refusal ≤ 5
   pub answered : (how : Sent) (before after : List ℕ) (answer : Answer) → SubmittedAs how before line answer after
-      → answer ≡ cond (sound before) (Refused refusal) (Refused 1)
+      → answer ≡ cond (sound before) (Refused refusal) (Refused UnsoundBook)
   pub kept : (how : Sent) (before after : List ℕ) (answer : Answer) → SubmittedAs how before line answer after
       → after ≡ before
 

@@ -1,7 +1,7 @@
 -- What `submit_batch` (crate `batches`) promises, for any bytes as the book, the text and the answer space: a batch of
 -- lines from one depository is taken in order, each line as if it was sent singly, but for 12 (document 02, request a).
 -- Assumes nothing.
-use Rattle.std.specs.Prelude.{ℕ, ◌≤◌, ◌≡◌, Bool, false, cond, not, List, [], ◌∷◌, eqb, length}
+use Rattle.std.specs.Prelude.{ℕ, ◌≤◌, ◌≡◌, Bool, false, cond, not, List, [], ◌∷◌, Result, Err, eqb, length}
 use Rattle.tables.specs.Count.{keep}
 use Rattle.meaning.specs.Desk.{lines_of}
 use Rattle.meaning.specs.SameBook.{SameBook}
@@ -9,8 +9,9 @@ use Rattle.meaning.specs.Batch.{fits, batch_result, batch_lines, space_after}
 use Rattle.meaning.specs.Lone.{told}
 use Rattle.meaning.specs.declared.Answer.{Answer}
 use Rattle.meaning.specs.declared.Answer.TheVariants.{Taken, Refused, Judged, WithStatus}
-use Rattle.meaning.specs.declared.Batch.{Batch}
-use Rattle.meaning.specs.declared.Batch.TheVariants as Result
+use Rattle.meaning.specs.declared.Refusal.{Refusal}
+use Rattle.meaning.specs.declared.Refusal.TheVariants.{BatchTooLarge}
+use Rattle.meaning.specs.Refusals.{number_of}
 use Rattle.meaning.specs.declared.Sent.{Sent}
 use Rattle.meaning.specs.declared.Sent.TheVariants.{Alone, InBatch}
 use Rattle.book.specs.Lone.{lone_book}
@@ -24,7 +25,7 @@ pub data Steps : List ℕ → List (Sent × List ℕ) → List Answer → List �
       {answers : List Answer} → SubmittedAs how book line answer between → Steps between lines answers after
       → Steps book ((how, line) ∷ lines) (answer ∷ answers) after
 
-pub record Batched (before : List ℕ) (csd : ℕ) (text space : List ℕ) (r : Batch) (after space' : List ℕ) : Type 0 where
+pub record Batched (before : List ℕ) (csd : ℕ) (text space : List ℕ) (r : Result ℕ Refusal) (after space' : List ℕ) : Type 0 where
   -- 11, before anything else, where the batch has over 64 lines or its answer space is under 32 bytes a line; else how
   -- many lines it has
   pub result : r ≡ batch_result text (length space)
@@ -39,7 +40,7 @@ pub record Batched (before : List ℕ) (csd : ℕ) (text space : List ℕ) (r : 
 -- whether an answer is refusal 12
 unfoldable pub is_twelve : Answer → Bool
 is_twelve Taken = false
-is_twelve (Refused n) = eqb n 12
+is_twelve (Refused r) = eqb (number_of r) 12
 is_twelve (Judged v) = false
 is_twelve (WithStatus v s) = false
 
@@ -73,13 +74,13 @@ SinglyAlike =
 -- ---- a batch that is refused 11
 
 -- 'no line is taken and nothing is written'
-pub record Untouched (before space : List ℕ) (r : Batch) (after space' : List ℕ) : Type 0 where
-  pub eleven : r ≡ Result.Refused 11
+pub record Untouched (before space : List ℕ) (r : Result ℕ Refusal) (after space' : List ℕ) : Type 0 where
+  pub eleven : r ≡ Err BatchTooLarge
   pub book : after ≡ before
   pub lent : space' ≡ space
 
 abbrev pub NothingWritten : Type 0
 NothingWritten =
-    (before : List ℕ) (csd : ℕ) (text space : List ℕ) (r : Batch) (after space' : List ℕ)
+    (before : List ℕ) (csd : ℕ) (text space : List ℕ) (r : Result ℕ Refusal) (after space' : List ℕ)
     → Batched before csd text space r after space' → fits (length (lines_of text)) (length space) ≡ false
     → Untouched before space r after space'

@@ -1,7 +1,7 @@
 -- 'What a reviewer will try' and 'Slips of this trade' (document 01), and the slips of the status and of a rule's
 -- period (document 02, requests b and c): for each of these pre-checks a book and a line are named at which its answer,
 -- or what it leaves, breaks the promise of `submit`. Stated here, proved in proofs/Tries. Assumes nothing.
-use Rattle.std.specs.Prelude.{ℕ, zero, suc, ◌≡◌, List, [], ◌∷◌, ◌++◌}
+use Rattle.std.specs.Prelude.{ℕ, zero, suc, ◌≡◌, List, [], ◌∷◌, ◌++◌, Ok}
 use Rattle.meaning.specs.Text.{bytes, numeral}
 use Rattle.meaning.specs.Records as M
 use Rattle.meaning.specs.SameBook.{SameBook}
@@ -10,7 +10,7 @@ use Rattle.meaning.specs.Printing.{printed}
 use Rattle.meaning.specs.Keler.{keler_lines}
 use Rattle.meaning.specs.Within.{shortened_lines}
 use Rattle.meaning.specs.declared.Answer.{Answer}
-use Rattle.meaning.specs.declared.Answer.TheVariants.{Taken, Refused}
+use Rattle.meaning.specs.declared.Answer.TheVariants.{Taken}
 use Rattle.meaning.specs.declared.Sent.TheVariants.{Alone}
 use Rattle.book.specs.Emptied.{Emptied}
 use Rattle.book.specs.Lone.{lone_book}
@@ -22,7 +22,7 @@ use Rattle.precheck.specs.Batch.{Steps}
 pub record LeftBy (lines : List (List ℕ)) (book : List ℕ) : Type 0 where
   pub lent : List ℕ
   pub start : List ℕ
-  pub emptied : Emptied lent start 0
+  pub emptied : Emptied lent start (Ok tt)
   pub answers : List Answer
   pub steps : Steps start (told Alone lines) answers book
 
@@ -75,7 +75,7 @@ pub record Tries : Type 0 where
   -- 'accepts every question without a hold'
   pub accepts_every_question : Refuted desk_lines question (bytes "V,A,0,0,0,0,9,5") (bytes "V,A,0,0,0,0,0,0")
   -- 'refuses every line', by whatever number
-  pub refuses_every_line : (n : ℕ) → Refuted [] type_line (bytes "K") (printed (Refused n))
+  pub refuses_every_line : (n : ℕ) → Refuted [] type_line (bytes "K") (bytes "F," ++ numeral n)
   -- 'takes edits with K and stores nothing': the depository's records stay
   pub stores_nothing :
       (before after : List ℕ) → LeftBy [] before → SameBook (lone_book 2 after) (lone_book 2 before)
@@ -198,7 +198,7 @@ pub record PeriodSlips : Type 0 where
   pub end_refused :
       (n : ℕ)
       → Refuted (short_type ∷ bytes "R,2,20170206,8,1,1,P,4,20170301,20171231" ∷ []) shortened_type (bytes "K")
-      (printed (Refused n))
+      (bytes "F," ++ numeral n)
   -- soundness asking it: a rule that outlives its type would bring 1
   pub soundness_asks_it :
       Refuted shortened_lines (bytes "Q,2,20170630,1,2,DELI,FREE,,EUR,11,20,30") (bytes "V,R,9,5,0,0,0,0") (bytes "F,1")

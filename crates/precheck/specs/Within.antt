@@ -1,6 +1,6 @@
 -- 'Types from next year only' (document 02, request c) in the shared book. Stated here, proved in proofs/Within.
 -- Assumes nothing.
-use Rattle.std.specs.Prelude.{ℕ, ◌≤◌, ◌≡◌, true, false, List}
+use Rattle.std.specs.Prelude.{ℕ, ◌≤◌, ◌≡◌, true, false, List, Ok}
 use Rattle.tables.specs.Count.{keep}
 use Rattle.meaning.specs.Lone.{counts}
 use Rattle.meaning.specs.Within.{all_within, some_e, shortened_lines}
@@ -16,7 +16,7 @@ use Rattle.precheck.specs.Tries.{LeftBy, SomeLeft}
 -- type, unless one of the lines that count as the depository's is an E. A neighbour's E alters nothing.
 abbrev pub WithinTypes : Type 0
 WithinTypes =
-    (lent emptied after : List ℕ) → Emptied lent emptied 0
+    (lent emptied after : List ℕ) → Emptied lent emptied (Ok tt)
     → (lines : List (Sent × List ℕ)) (answers : List Answer) → Steps emptied lines answers after
     → (a : ℕ) → 1 ≤ a → a ≤ 8
     → some_e (keep (counts a) lines) ≡ false

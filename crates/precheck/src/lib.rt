@@ -6,11 +6,11 @@ ghost use Rattle.book.specs.Emptied.{Emptied};
 ghost use Rattle.precheck.specs.Promise.{Submitted};
 
 use answering::answer;
-use meaning::{Answer, Sent};
+use meaning::{Answer, Refusal, Sent};
 use soundness::is_sound;
 
-// Makes a book of no records from lent space of the exact size and answers 0; other sizes get 1 and stay untouched.
-pub fn empty(book: &mut [u8]) -> u8
+// Makes a book of no records from lent space of the exact size; other sizes get 1 and stay untouched.
+pub fn empty(book: &mut [u8]) -> Result<(), Refusal>
     ensures { Emptied book.old book.new result }
 {
     book::empty(book)

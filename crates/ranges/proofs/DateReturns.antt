@@ -1,18 +1,18 @@
 -- Dates by their month and day, with the lengths of the months in one number.
 use Prim.Native.Nat.{ℕ, ◌+◌, ◌*◌, ◌-◌, ◌/◌, ◌%◌, ◌^◌, ◌≤◌, ◌<◌}
-use mathlib.Core.Path.{◌≡◌, refl, sym, ◌∙◌}
-use mathlib.Core.Bool.{Bool, true, false, ◌&&◌, ◌||◌, not}
+use mathlib.Core.Path.{◌≡◌, refl}
+use mathlib.Core.Bool.{Bool, true, false, ◌&&◌, and-false}
 use native.Mathlib.Omega.{arith}
 use lib.Bits.{bit_and, and_le_r}
 use mir.Syntax.{w32}
 use mir.Val.{Fits}
 use lib.Dec.{eqb, leb, ltb}
 use lib.ListN.{get_or}
-use borrow.Author.Tests.{eqb-true, eq-eqb, leb-true, leb-false, le-leb, ltb-true, lt-ltb, not-true, not-false}
+use borrow.Author.Tests.{eqb-true, eq-eqb, leb-true, leb-false, le-leb, ltb-true, lt-ltb, lt-leb}
 use Rattle.tables.specs.Count.{all_below}
 use Rattle.tables.proofs.Counts.{cases, both, and_l, and_r, agree, all_at}
 use Rattle.meaning.specs.Fields.{within}
-use Rattle.meaning.specs.Forms.{optional, day as day_form, months, month_length, holds}
+use Rattle.meaning.specs.Forms.{months, month_length, holds}
 use Rattle.meaning.specs.Sound.{days_fit}
 use Rattle.ranges.specs.Values.{month_day}
 
@@ -47,19 +47,20 @@ module _ (n : ℕ) where
   abbrev long : ℕ
   long = month_length (n / 10000) month
 
-  pub month_wrong : {w k : Bool} → w ≡ true → w ≡ not k → k ≡ within 1 12 month → false ≡ month_day n
+  pub month_none : month ≡ 0 → false ≡ month_day n
   unfolding month_day
-  month_wrong {w} {k} e f g = rw (← g, not-true k (sym f ∙ e))
+  month_none e = rw e
 
-  module _ {w k : Bool} (left : w ≡ false) (said : w ≡ not k) (test : k ≡ within 1 12 month) where
-    month_right : within 1 12 month ≡ true
-    month_right = sym test ∙ not-false k (sym said ∙ left)
+  pub month_late : 12 < month → false ≡ month_day n
+  unfolding month_day
+  month_late l = rw (lt-leb month 12 l, and-false (leb 1 month))
 
+  module _ (some : month ≡ 0 → ⊥) (high : month ≤ 12) where
     low : 1 ≤ month
-    low = leb-true 1 month (and_l (leb 1 month) (leb month 12) month_right)
+    low = cases (leb 1 month) (λ t. leb-true 1 month t) (λ t. absurd (some (omega (arith, leb-false 1 month t))))
 
-    high : month ≤ 12
-    high = leb-true month 12 (and_r (leb 1 month) (leb month 12) month_right)
+    month_right : within 1 12 month ≡ true
+    month_right = rw (le-leb 1 month low, le-leb month 12 high)
 
     -- the two bits of a month stand below 2 ^ 32
     pub month_shift : 2 * month < 32
@@ -96,11 +97,10 @@ module _ (n : ℕ) where
         let l' : common 2 < day = rw m at l in
         omega (arith, g', l')
 
-    pub leap_day : {r : Bool} → r ≡ (eqb (n % 10000) 229 && eqb (n / 10000 % 4) 0) → common month < day → r ≡ month_day n
+    pub leap_day : common month < day → (eqb (n % 10000) 229 && eqb (n / 10000 % 4) 0) ≡ month_day n
     unfolding month_day
-    leap_day {r} e l =
-        e
-        ∙ agree (eqb (n % 10000) 229 && eqb (n / 10000 % 4) 0) (within 1 12 month && within 1 long day)
+    leap_day l =
+        agree (eqb (n % 10000) 229 && eqb (n / 10000 % 4) 0) (within 1 12 month && within 1 long day)
         (λ t.
         let h = both (eqb (n % 10000) 229) (eqb (n / 10000 % 4) 0) t in
         let g = eqb-true (n % 10000) 229 h.0 in
@@ -123,18 +123,18 @@ abbrev in_years : ℕ → Bool
 in_years n = within 2000 2099 (n / 10000)
 
 days_order : (f l : ℕ) (p q : Bool)
-    → ((leb 20000000 f && (leb f l && ltb l 21000000)) && (p && q))
+    → (((leb 20000000 f && leb f l) && ltb l 21000000) && (p && q))
     ≡ ((in_years f && p) && ((in_years l && q) && leb f l))
 days_order f l p q =
-    agree ((leb 20000000 f && (leb f l && ltb l 21000000)) && (p && q)) ((in_years f && p) && ((in_years l && q) && leb f l))
+    agree (((leb 20000000 f && leb f l) && ltb l 21000000) && (p && q)) ((in_years f && p) && ((in_years l && q) && leb f l))
     (λ t.
-    let h = both (leb 20000000 f && (leb f l && ltb l 21000000)) (p && q) t in
-    let a = both (leb 20000000 f) (leb f l && ltb l 21000000) h.0 in
-    let o = both (leb f l) (ltb l 21000000) a.1 in
+    let h = both ((leb 20000000 f && leb f l) && ltb l 21000000) (p && q) t in
+    let a = both (leb 20000000 f && leb f l) (ltb l 21000000) h.0 in
+    let o = both (leb 20000000 f) (leb f l) a.0 in
     let d = both p q h.1 in
-    let low = leb-true 20000000 f a.0 in
-    let mid = leb-true f l o.0 in
-    let high = ltb-true l 21000000 o.1 in
+    let low = leb-true 20000000 f o.0 in
+    let mid = leb-true f l o.1 in
+    let high = ltb-true l 21000000 a.1 in
     rw (
       le-leb 2000 (f / 10000) (omega (arith, low)),
       le-leb (f / 10000) 2099 (omega (arith, mid, high)),
@@ -142,7 +142,7 @@ days_order f l p q =
       le-leb (l / 10000) 2099 (omega (arith, high)),
       d.0,
       d.1,
-      o.0,
+      o.1,
     ))
     (λ t.
     let h = both (in_years f && p) ((in_years l && q) && leb f l) t in
@@ -153,14 +153,7 @@ days_order f l p q =
     let high = leb-true (l / 10000) 2099 (and_r (leb 2000 (l / 10000)) (leb (l / 10000) 2099) c.0) in
     rw (le-leb 20000000 f (omega (arith, low)), o.1, lt-ltb l 21000000 (omega (arith, high)), a.1, c.1))
 
-pub days_said : (f l : ℕ) {r a o d p q : Bool} → r ≡ (a && d) → a ≡ (leb 20000000 f && o) → o ≡ (leb f l && ltb l 21000000)
-    → d ≡ (p && q) → p ≡ month_day f → q ≡ month_day l → r ≡ days_fit f l
+pub days_said : (f l : ℕ) {p q : Bool} → p ≡ month_day f → q ≡ month_day l
+    → (((leb 20000000 f && leb f l) && ltb l 21000000) && (p && q)) ≡ days_fit f l
 unfolding days_fit holds month_day
-days_said f l e a o d p q = rw (e, a, o, d, p, q) (days_order f l (month_day f) (month_day l))
-
--- ---- a day or none
-
-pub optional_said : (n : ℕ) {r d y p : Bool} → r ≡ (eqb n 0 || d) → d ≡ (y && p) → y ≡ within 2000 2099 (n / 10000)
-    → p ≡ month_day n → r ≡ holds (optional day_form) n
-unfolding holds month_day
-optional_said n e f g h = rw (e, f, g, h)
+days_said f l p q = rw (p, q) (days_order f l (month_day f) (month_day l))

@@ -1,2 +1,1 @@
 pub mod DateReturns
-pub mod ValueReturns

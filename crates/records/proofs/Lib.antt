@@ -1,4 +1,3 @@
-pub mod RecordReturns
 pub mod Ten
 pub mod Differences
 pub mod Filled

@@ -1,11 +1,11 @@
 -- What is asked of the records of a table: a case for each test. Assumes nothing.
-use Rattle.std.specs.Prelude.{Bool, true}
+use Rattle.std.specs.Prelude.{◌≡◌, refl, Bool, true}
 use Rattle.meaning.specs.Records as M
 use Rattle.meaning.specs.Keys.{is_type, is_rule, of_rule, is_row, is_period, is_kept, clash}
 use Rattle.meaning.specs.Refusals.{type_outside, period_outside, other_criteria}
 use Rattle.meaning.specs.Pending.{held_by}
 use Rattle.meaning.specs.Sound.{fills_rule}
-use Rattle.records.specs.Said.{period_of}
+use Rattle.records.specs.Said.{row_of, period_of}
 use Rattle.records.specs.declared.TypeAsk.{TypeAsk}
 use Rattle.records.specs.declared.TypeAsk.TheVariants as Types
 use Rattle.records.specs.declared.RuleAsk.{RuleAsk}
@@ -22,19 +22,18 @@ type_meets Types.Any t = true
 type_meets (Types.Named n o) t = is_type n o t
 type_meets (Types.Outside n o day) t = type_outside n o day t
 
--- a row stands beside what is asked of a rule, since no enum of the code may hold an array: Fills and Other ask for its
--- rule
-unfoldable pub rule_meets : RuleAsk → M.Row → M.Rule → Bool
-rule_meets Rules.Any w r = true
-rule_meets (Rules.Named n o s) w r = is_rule n o s r
-rule_meets Rules.Fills w r = fills_rule w r
-rule_meets Rules.Other w r = other_criteria w r
+-- Fills and Other ask for the rule of a row
+unfoldable pub rule_meets : RuleAsk → M.Rule → Bool
+rule_meets Rules.Any r = true
+rule_meets (Rules.Named n o s) r = is_rule n o s r
+rule_meets (Rules.Fills w) r = fills_rule (row_of w) r
+rule_meets (Rules.Other w) r = other_criteria (row_of w) r
 
--- the row that is meant stands beside: the row itself, or the rows of its rule
-unfoldable pub row_meets : RowAsk → M.Row → M.Row → Bool
-row_meets Rows.Any a w = true
-row_meets Rows.Same a w = is_row a w
-row_meets Rows.OfRule a w = of_rule a.type a.object a.sequence w
+-- the row itself, or the rows of its rule
+unfoldable pub row_meets : RowAsk → M.Row → Bool
+row_meets Rows.Any w = true
+row_meets (Rows.Same a) w = is_row (row_of a) w
+row_meets (Rows.OfRule a) w = of_rule a.number a.object a.sequence w
 
 unfoldable pub period_meets : PeriodAsk → M.Period → Bool
 period_meets Periods.Any p = true
@@ -46,3 +45,25 @@ unfoldable pub instruction_meets : InstructionAsk → M.Kept → Bool
 instruction_meets Instructions.Any k = true
 instruction_meets (Instructions.Named reference) k = is_kept reference k
 instruction_meets (Instructions.Held reference hold) k = held_by reference hold k
+
+-- ---- every record is what any is
+
+pub type_all : (x : M.TypeRecord) → type_meets Types.Any x ≡ true
+unfolding type_meets
+type_all x = refl
+
+pub rule_all : (x : M.Rule) → rule_meets Rules.Any x ≡ true
+unfolding rule_meets
+rule_all x = refl
+
+pub row_all : (x : M.Row) → row_meets Rows.Any x ≡ true
+unfolding row_meets
+row_all x = refl
+
+pub period_all : (x : M.Period) → period_meets Periods.Any x ≡ true
+unfolding period_meets
+period_all x = refl
+
+pub instruction_all : (x : M.Kept) → instruction_meets Instructions.Any x ≡ true
+unfolding instruction_meets
+instruction_all x = refl

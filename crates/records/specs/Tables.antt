@@ -11,8 +11,10 @@ use Rattle.places.specs.declared.RestrictionType.{RestrictionType}
 use Rattle.places.specs.declared.Rule.{Rule}
 use Rattle.places.specs.declared.Row.{Row}
 use Rattle.places.specs.declared.Period.{Period}
-use Rattle.records.specs.Said.{type_of, rule_of, row_of, period_of}
-use Rattle.records.specs.Free.{type_zero, rule_zero, row_zero, period_zero}
+use Rattle.places.specs.Layout.{instruction_places, instruction_base, instruction_widths, instruction_numbers, instruction_from, instruction_at, put_instruction}
+use Rattle.places.specs.declared.Kept.{Kept}
+use Rattle.records.specs.Said.{type_of, rule_of, row_of, period_of, instruction_of}
+use Rattle.records.specs.Free.{all_zero, type_zero, rule_zero, row_zero, period_zero}
 
 pub data TableName : Type 0 where
   of_types of_rules of_rows of_periods : TableName
@@ -83,6 +85,22 @@ table of_periods = record {
   csd = λ r. r.csd;
   free = period_zero;
   rec = period_of;
+}
+
+-- the kept instructions, which stand behind the book (docs/LAYOUT.md)
+abbrev pub kept : Table Kept M.Kept
+kept = record {
+  start = instruction_base;
+  places = instruction_places;
+  quota = M.instruction_quota;
+  widths = instruction_widths;
+  shown = instruction_numbers;
+  from = instruction_from;
+  at = instruction_at;
+  put = put_instruction;
+  csd = λ r. r.csd;
+  free = λ r. all_zero (instruction_numbers r);
+  rec = instruction_of;
 }
 
 -- ---- the tables' order in the book

@@ -1,8 +1,11 @@
 // What is asked of one record by value, and the tests that others use.
 #![tactic(auto)]
 
-ghost use Rattle.std.specs.Prelude.{◌≡◌, ◌+◌, ◌≤◌, eqb, ltb};
+ghost use Rattle.std.specs.Prelude.{◌≡◌, ◌+◌, ◌<◌, ◌≤◌, Bool, true, eqb, ltb, refl};
+ghost use Rattle.std.proofs.Common.{rules};
 ghost use Rattle.tables.specs.Count.{bit, all_below};
+ghost use Rattle.tables.specs.Table.{Table};
+ghost use Rattle.meaning.specs.Records as M;
 ghost use Rattle.meaning.specs.Keys.{filled, is_rule};
 ghost use Rattle.meaning.specs.Text.{same};
 ghost use Rattle.meaning.specs.Refusals.{outside};
@@ -10,10 +13,10 @@ ghost use Rattle.meaning.specs.Pending.{held_since};
 ghost use Rattle.records.specs.Said.{type_of, rule_of, row_of, period_of, instruction_of};
 ghost use Rattle.records.specs.Criteria.{belongs, agrees, filled_count};
 ghost use Rattle.records.specs.Values.{first_difference};
-ghost use Rattle.records.specs.Asks.{type_meets, rule_meets, row_meets, period_meets, instruction_meets};
+ghost use Rattle.records.specs.Tables.{of_types, of_rules, of_rows, of_periods, table, kept};
+ghost use Rattle.records.specs.Asks.{type_meets, rule_meets, row_meets, period_meets, instruction_meets, type_all, rule_all, row_all, period_all, instruction_all};
 
-use basics::{and, no, one_if, or, pick};
-use places::{Kept, Period, RestrictionType, Row, Rule};
+use places::{Kept, Period, Place, RestrictionType, Row, Rule};
 
 // ---- What is asked of a record.
 
@@ -25,21 +28,21 @@ pub enum TypeAsk {
     Outside(u8, u8, u32),
 }
 
-// Fills and Other: the rule of the row beside, with exactly the criteria that the row fills, or with others.
+// Fills and Other: the rule of the row, with exactly the criteria that the row fills, or with others.
 #[derive(Clone, Copy)]
 pub enum RuleAsk {
     Any,
     Named(u8, u8, u8),
-    Fills,
-    Other,
+    Fills(Row),
+    Other(Row),
 }
 
-// Same and OfRule: the row beside, and the rows of its rule.
+// Same and OfRule: the row itself, and the rows of its rule.
 #[derive(Clone, Copy)]
 pub enum RowAsk {
     Any,
-    Same,
-    OfRule,
+    Same(Row),
+    OfRule(Row),
 }
 
 // Clash: of that kind, number and attribute, and shares a day.
@@ -59,6 +62,36 @@ pub enum InstructionAsk {
     Held(u32, u8),
 }
 
+// A record of a table of which something can be asked.
+pub trait Record: Place {
+    // What it says without its depository, in the written meaning, and its table.
+    ghost Said: { Type 0 };
+
+    ghost table: { Table Self Said };
+
+    // What can be asked, when what is said is as asked, and what every record is.
+    type Ask: Copy;
+
+    ghost asked: { Self.Ask → Said → Bool };
+
+    ghost any: { Self.Ask };
+
+    // Whether the record is as asked.
+    fn meets(self, q: Self::Ask) -> bool
+        ensures { result ≡ asked q (table.rec self) };
+
+    // What every record is.
+    fn any() -> Self::Ask
+        ensures { result ≡ any };
+
+    ghost stands: { (table.places ≡ Self.PLACES) × (table.quota ≡ Self.QUOTA) × (table.at ≡ Self.at) × (table.csd ≡ Self.csd) };
+
+    ghost all: { (x : Said) → asked any x ≡ true };
+
+    // A count of them is a u16.
+    ghost few: { Self.PLACES < 65536 };
+}
+
 // ---- The criteria that a row fills (document 01, 'Records').
 
 // Criterion i belongs to the criteria.
@@ -75,7 +108,7 @@ pub fn belongs(criteria: u32, i: u8) -> bool
 fn filled_five(a: u32, b: u32, c: u32, d: u32, e: u32) -> u16
     ensures { (result ≡ bit (ltb 0 a) + bit (ltb 0 b) + bit (ltb 0 c) + bit (ltb 0 d) + bit (ltb 0 e)) × (result ≤ 5) }
 {
-    one_if(0 < a) + one_if(0 < b) + one_if(0 < c) + one_if(0 < d) + one_if(0 < e)
+    u16::from(0 < a) + u16::from(0 < b) + u16::from(0 < c) + u16::from(0 < d) + u16::from(0 < e)
 }
 
 // How many values are filled.
@@ -94,7 +127,7 @@ fn all_agree(criteria: u32, v: [u32; 10]) -> bool
     let mut ok = true;
     for i in 0..10 {
         let k = i as usize;
-        ok = and(ok, one_if(belongs(criteria, i)) == one_if(0 < v[k]));
+        ok = ok & (u16::from(belongs(criteria, i)) == u16::from(0 < v[k]));
     }
     ok
 }
@@ -106,7 +139,8 @@ pub fn fills(criteria: u32, v: [u32; 10]) -> bool
     if u32::count_ones(criteria) != filled_count(v) as u32 {
         return false;
     }
-    and(criteria < 1024, all_agree(criteria, v))
+    // `&`, since the proof takes the two as one value; both are pure.
+    (criteria < 1024) & all_agree(criteria, v)
 }
 
 // ---- Whether a record is as asked (document 01, 'Records').
@@ -115,68 +149,106 @@ pub fn fills(criteria: u32, v: [u32; 10]) -> bool
 fn is_outside(day: u32, first: u32, last: u32) -> bool
     ensures { result ≡ outside day first last }
 {
-    or(day < first, last < day)
+    day < first || last < day
 }
 
+#[tactic(auto, unfolding(crate::specs::Asks::type_meets, crate::specs::Said::type_of, meaning::specs::Keys::is_type))]
 fn is_type(t: RestrictionType, number: u8, object: u8) -> bool
     ensures { result ≡ type_meets (TypeAsk.Named number object) (type_of t) }
 {
-    and(t.number == number, t.object == object)
+    t.number == number && t.object == object
 }
 
+#[tactic(auto, unfolding(crate::specs::Asks::type_meets, crate::specs::Said::type_of, meaning::specs::Refusals::type_outside))]
 fn type_outside(t: RestrictionType, number: u8, object: u8, day: u32) -> bool
     ensures { result ≡ type_meets (TypeAsk.Outside number object day) (type_of t) }
 {
-    and(is_type(t, number, object), is_outside(day, t.first, t.last))
+    is_type(t, number, object) & is_outside(day, t.first, t.last)
 }
 
-pub fn type_meets(t: RestrictionType, q: TypeAsk) -> bool
-    ensures { result ≡ type_meets q (type_of t) }
-{
-    match q {
-        TypeAsk::Any => true,
-        TypeAsk::Named(number, object) => is_type(t, number, object),
-        TypeAsk::Outside(number, object, day) => type_outside(t, number, object, day),
+impl Record for RestrictionType {
+    ghost use Rattle.records.specs.declared.TypeAsk.{TypeAsk};
+
+    ghost Said = { M.TypeRecord };
+
+    ghost table = { table of_types };
+
+    ghost asked = { type_meets };
+
+    ghost any = { TypeAsk.Any };
+
+    ghost stands = { (refl, refl, refl, refl) };
+
+    ghost all = { type_all };
+
+    ghost few = { Prim.search rules };
+
+    type Ask = TypeAsk;
+
+    fn meets(self, q: TypeAsk) -> bool {
+        match q {
+            TypeAsk::Any => true,
+            TypeAsk::Named(number, object) => is_type(self, number, object),
+            TypeAsk::Outside(number, object, day) => type_outside(self, number, object, day),
+        }
+    }
+
+    fn any() -> TypeAsk {
+        TypeAsk::Any
     }
 }
 
+#[tactic(auto, unfolding(crate::specs::Said::rule_of, meaning::specs::Keys::is_rule))]
 fn is_rule(t: Rule, number: u8, object: u8, sequence: u8) -> bool
     ensures { result ≡ is_rule number object sequence (rule_of t) }
 {
-    and(
-        and(t.sequence == sequence, t.number == number),
-        t.object == object,
-    )
+    t.sequence == sequence && t.number == number && t.object == object
 }
 
+#[tactic(auto, unfolding(crate::specs::Asks::rule_meets, crate::specs::Said::row_of, crate::specs::Said::rule_of, meaning::specs::Sound::fills_rule))]
 fn fills_rule(t: Rule, w: Row) -> bool
-    ensures { result ≡ rule_meets RuleAsk.Fills (row_of w) (rule_of t) }
+    ensures { result ≡ rule_meets (RuleAsk.Fills w) (rule_of t) }
 {
-    let v = w.values;
-    if is_rule(t, w.number, w.object, w.sequence) {
-        return fills(t.criteria, v);
-    }
-    false
+    is_rule(t, w.number, w.object, w.sequence) && fills(t.criteria, w.values)
 }
 
+#[tactic(auto, unfolding(crate::specs::Asks::rule_meets, crate::specs::Said::row_of, crate::specs::Said::rule_of, meaning::specs::Refusals::other_criteria))]
 fn other_criteria(t: Rule, w: Row) -> bool
-    ensures { result ≡ rule_meets RuleAsk.Other (row_of w) (rule_of t) }
+    ensures { result ≡ rule_meets (RuleAsk.Other w) (rule_of t) }
 {
-    let v = w.values;
-    if is_rule(t, w.number, w.object, w.sequence) {
-        return no(fills(t.criteria, v));
-    }
-    false
+    is_rule(t, w.number, w.object, w.sequence) && !fills(t.criteria, w.values)
 }
 
-pub fn rule_meets(t: Rule, q: RuleAsk, w: Row) -> bool
-    ensures { result ≡ rule_meets q (row_of w) (rule_of t) }
-{
-    match q {
-        RuleAsk::Any => true,
-        RuleAsk::Named(number, object, sequence) => is_rule(t, number, object, sequence),
-        RuleAsk::Fills => fills_rule(t, w),
-        RuleAsk::Other => other_criteria(t, w),
+impl Record for Rule {
+    ghost use Rattle.records.specs.declared.RuleAsk.{RuleAsk};
+
+    ghost Said = { M.Rule };
+
+    ghost table = { table of_rules };
+
+    ghost asked = { rule_meets };
+
+    ghost any = { RuleAsk.Any };
+
+    ghost stands = { (refl, refl, refl, refl) };
+
+    ghost all = { rule_all };
+
+    ghost few = { Prim.search rules };
+
+    type Ask = RuleAsk;
+
+    fn meets(self, q: RuleAsk) -> bool {
+        match q {
+            RuleAsk::Any => true,
+            RuleAsk::Named(number, object, sequence) => is_rule(self, number, object, sequence),
+            RuleAsk::Fills(w) => fills_rule(self, w),
+            RuleAsk::Other(w) => other_criteria(self, w),
+        }
+    }
+
+    fn any() -> RuleAsk {
+        RuleAsk::Any
     }
 }
 
@@ -199,99 +271,161 @@ fn same_values(a: [u32; 10], b: [u32; 10]) -> bool
     first_difference(a, b) == 10
 }
 
+#[tactic(auto, unfolding(crate::specs::Asks::row_meets, crate::specs::Said::row_of, meaning::specs::Keys::of_rule))]
 fn of_rule(t: Row, w: Row) -> bool
-    ensures { result ≡ row_meets RowAsk.OfRule (row_of w) (row_of t) }
+    ensures { result ≡ row_meets (RowAsk.OfRule w) (row_of t) }
 {
-    and(
-        and(t.sequence == w.sequence, t.number == w.number),
-        t.object == w.object,
-    )
+    t.sequence == w.sequence && t.number == w.number && t.object == w.object
 }
 
+#[tactic(auto, unfolding(crate::specs::Asks::row_meets, crate::specs::Said::row_of, meaning::specs::Keys::is_row))]
 fn is_row(t: Row, w: Row) -> bool
-    ensures { result ≡ row_meets RowAsk.Same (row_of w) (row_of t) }
+    ensures { result ≡ row_meets (RowAsk.Same w) (row_of t) }
 {
-    let mine = t.values;
-    let meant = w.values;
-    if of_rule(t, w) {
-        return same_values(meant, mine);
-    }
-    false
+    of_rule(t, w) && same_values(w.values, t.values)
 }
 
-pub fn row_meets(t: Row, q: RowAsk, w: Row) -> bool
-    ensures { result ≡ row_meets q (row_of w) (row_of t) }
-{
-    match q {
-        RowAsk::Any => true,
-        RowAsk::Same => is_row(t, w),
-        RowAsk::OfRule => of_rule(t, w),
+impl Record for Row {
+    ghost use Rattle.records.specs.declared.RowAsk.{RowAsk};
+
+    ghost Said = { M.Row };
+
+    ghost table = { table of_rows };
+
+    ghost asked = { row_meets };
+
+    ghost any = { RowAsk.Any };
+
+    ghost stands = { (refl, refl, refl, refl) };
+
+    ghost all = { row_all };
+
+    ghost few = { Prim.search rules };
+
+    type Ask = RowAsk;
+
+    fn meets(self, q: RowAsk) -> bool {
+        match q {
+            RowAsk::Any => true,
+            RowAsk::Same(w) => is_row(self, w),
+            RowAsk::OfRule(w) => of_rule(self, w),
+        }
+    }
+
+    fn any() -> RowAsk {
+        RowAsk::Any
     }
 }
 
+#[tactic(auto, unfolding(crate::specs::Asks::period_meets, crate::specs::Said::period_of, meaning::specs::Keys::is_period))]
 fn is_period(t: Period, kind: u8, number: u32, code: u32, first: u32) -> bool
     ensures { result ≡ period_meets (PeriodAsk.Named kind number code first) (period_of t) }
 {
-    let days = and(t.first == first, t.code == code);
-    and(and(days, t.number == number), t.kind == kind)
+    t.first == first && t.code == code && t.number == number && t.kind == kind
 }
 
+#[tactic(auto, unfolding(crate::specs::Asks::period_meets, crate::specs::Said::period_of, meaning::specs::Keys::is_period, meaning::specs::Refusals::period_outside))]
 fn period_outside(t: Period, kind: u8, number: u32, code: u32, first: u32, last: u32) -> bool
     ensures { result ≡ period_meets (PeriodAsk.Outside kind number code first last) (period_of t) }
 {
-    and(
-        is_period(t, kind, number, code, first),
-        is_outside(last, t.first, t.last),
-    )
+    is_period(t, kind, number, code, first) & is_outside(last, t.first, t.last)
 }
 
 // First and last day both count.
+#[tactic(auto, unfolding(crate::specs::Asks::period_meets, crate::specs::Said::period_of, meaning::specs::Keys::clash))]
 fn clashes(t: Period, p: Period) -> bool
     ensures { result ≡ period_meets (PeriodAsk.Clash p) (period_of t) }
 {
-    let of = and(
-        and(t.kind == p.kind, t.number == p.number),
-        t.code / 100 == p.code / 100,
-    );
-    and(and(of, t.first <= p.last), p.first <= t.last)
+    let of = t.kind == p.kind && t.number == p.number && t.code / 100 == p.code / 100;
+    of && t.first <= p.last && p.first <= t.last
 }
 
-pub fn period_meets(t: Period, q: PeriodAsk) -> bool
-    ensures { result ≡ period_meets q (period_of t) }
-{
-    match q {
-        PeriodAsk::Any => true,
-        PeriodAsk::Clash(p) => clashes(t, p),
-        PeriodAsk::Named(kind, number, code, first) => is_period(t, kind, number, code, first),
-        PeriodAsk::Outside(kind, number, code, first, last) => {
-            period_outside(t, kind, number, code, first, last)
+impl Record for Period {
+    ghost use Rattle.records.specs.declared.PeriodAsk.{PeriodAsk};
+
+    ghost Said = { M.Period };
+
+    ghost table = { table of_periods };
+
+    ghost asked = { period_meets };
+
+    ghost any = { PeriodAsk.Any };
+
+    ghost stands = { (refl, refl, refl, refl) };
+
+    ghost all = { period_all };
+
+    ghost few = { Prim.search rules };
+
+    type Ask = PeriodAsk;
+
+    fn meets(self, q: PeriodAsk) -> bool {
+        match q {
+            PeriodAsk::Any => true,
+            PeriodAsk::Clash(p) => clashes(self, p),
+            PeriodAsk::Named(kind, number, code, first) => is_period(
+                self, kind, number, code, first,
+            ),
+            PeriodAsk::Outside(kind, number, code, first, last) => {
+                period_outside(self, kind, number, code, first, last)
+            }
         }
+    }
+
+    fn any() -> PeriodAsk {
+        PeriodAsk::Any
     }
 }
 
 // The day since which a hold is on; 0 where it is off.
+#[tactic(auto, unfolding(crate::specs::Said::instruction_of, meaning::specs::Pending::held_since))]
 pub fn held_since(t: Kept, hold: u8) -> u32
     ensures { result ≡ held_since (instruction_of t) hold }
 {
-    pick(
-        hold == RestrictionType::VALIDATION_HOLD,
-        t.validating,
-        pick(hold == RestrictionType::PARTY_HOLD, t.holding, 0),
-    )
+    if hold == RestrictionType::VALIDATION_HOLD {
+        t.validating
+    } else if hold == RestrictionType::PARTY_HOLD {
+        t.holding
+    } else {
+        0
+    }
 }
 
+#[tactic(auto, unfolding(crate::specs::Asks::instruction_meets, crate::specs::Said::instruction_of, meaning::specs::Pending::held_by, meaning::specs::Pending::is_held, meaning::specs::Keys::is_kept))]
 fn is_held(t: Kept, reference: u32, hold: u8) -> bool
     ensures { result ≡ instruction_meets (InstructionAsk.Held reference hold) (instruction_of t) }
 {
-    and(t.reference == reference, no(held_since(t, hold) == 0))
+    (t.reference == reference) & (held_since(t, hold) != 0)
 }
 
-pub fn instruction_meets(t: Kept, q: InstructionAsk) -> bool
-    ensures { result ≡ instruction_meets q (instruction_of t) }
-{
-    match q {
-        InstructionAsk::Any => true,
-        InstructionAsk::Named(reference) => t.reference == reference,
-        InstructionAsk::Held(reference, hold) => is_held(t, reference, hold),
+impl Record for Kept {
+    ghost use Rattle.records.specs.declared.InstructionAsk.{InstructionAsk};
+
+    ghost Said = { M.Kept };
+
+    ghost table = { kept };
+
+    ghost asked = { instruction_meets };
+
+    ghost any = { InstructionAsk.Any };
+
+    ghost stands = { (refl, refl, refl, refl) };
+
+    ghost all = { instruction_all };
+
+    ghost few = { Prim.search rules };
+
+    type Ask = InstructionAsk;
+
+    fn meets(self, q: InstructionAsk) -> bool {
+        match q {
+            InstructionAsk::Any => true,
+            InstructionAsk::Named(reference) => self.reference == reference,
+            InstructionAsk::Held(reference, hold) => is_held(self, reference, hold),
+        }
+    }
+
+    fn any() -> InstructionAsk {
+        InstructionAsk::Any
     }
 }

@@ -15,42 +15,21 @@ pub struct ListedRule {
     pub matches: bool,
 }
 
-// The sequence of the first matching positive rule, if there is one.
-#[derive(Clone, Copy)]
-pub enum First {
-    At(u8),
-    Nothing,
-}
-
 // A positive rule that matches decides, unless one before it does.
 fn may_decide(r: ListedRule) -> bool
     ensures { result ≡ may_decide r }
 {
-    if r.sign == Rule::POSITIVE {
-        r.matches
-    } else {
-        false
-    }
+    r.sign == Rule::POSITIVE && r.matches
 }
 
-// The first matching positive rule, in the order of the slice.
-pub fn first_positive(rules: &[ListedRule]) -> First
+// The sequence of the first matching positive rule, in the order of the slice, if there is one.
+pub fn first_positive(rules: &[ListedRule]) -> Option<u8>
     ensures { result ≡ first_positive rules.now }
 {
-    let mut i = 0;
-    while i < rules.len() {
-        let r = rules[i];
-        if may_decide(r) {
-            return First::At(r.sequence);
+    for r in rules {
+        if may_decide(*r) {
+            return Some(r.sequence);
         }
-        i += 1;
     }
-    First::Nothing
-}
-
-// The same of a type's hundred rules by sequence, for callers without a slice.
-pub fn first_of(rules: [ListedRule; 100]) -> First
-    ensures { result ≡ first_positive rules }
-{
-    first_positive(&rules)
+    None
 }

@@ -2,181 +2,215 @@
 // after it. Lines are read and written by it.
 #![tactic(auto)]
 
-ghost use Rattle.std.specs.Prelude.{◌<◌, ◌≡◌, get_or};
-ghost use Rattle.meaning.specs.Forms.{csd_form, letter_byte};
-ghost use Rattle.shapes.specs.Table.{form_at, forms_at, shape_at, Counted, Row};
+ghost use Rattle.std.specs.Prelude.{◌≡◌, ◌≤◌, length, map};
+ghost use Rattle.meaning.specs.Forms.{letter_byte};
+ghost use Rattle.shapes.specs.Table.{field_of, forms_of, row_of};
 
-// ---- the forms of fields, by number
+use Field::{Filled, Optional};
+use Form::{
+    Code, Criteria, Csd, Currency, Day, Kind, Movement, Number, Object, PartyType, Payment,
+    Processing, Sequence, Sign, Transaction, TypeNumber, Wish,
+};
 
-// Numbers from 1 to a most: csd, type, object, processing, sequence, criteria, number (of a party, an account
-// or a security), party type.
-pub const CS: u8 = 0;
+// ---- the forms of fields
 
-pub const TY: u8 = 1;
+// What a field holds that is not empty.
+#[derive(Clone, Copy, Debug, PartialEq, Eq)]
+pub enum Form {
+    // Numbers from 1 to a most. `Number` is that of a party, an account or a security.
+    Csd,
+    TypeNumber,
+    Object,
+    Processing,
+    Sequence,
+    Criteria,
+    Number,
+    PartyType,
+    // Other forms. A wish is a hold indicator or an account default.
+    Day,
+    Sign,
+    Kind,
+    Code,
+    Movement,
+    Payment,
+    Transaction,
+    Wish,
+    Currency,
+}
 
-pub const OB: u8 = 2;
-
-pub const PR: u8 = 3;
-
-pub const SQ: u8 = 4;
-
-pub const CR: u8 = 5;
-
-pub const NU: u8 = 6;
-
-pub const PT: u8 = 7;
-// Other forms: day, sign, kind, code, movement, payment, transaction, wish (hold indicator and account default),
-// currency.
-pub const DY: u8 = 8;
-
-pub const SG: u8 = 9;
-
-pub const KI: u8 = 10;
-
-pub const CO: u8 = 11;
-
-pub const MO: u8 = 12;
-
-pub const PA: u8 = 13;
-
-pub const TR: u8 = 14;
-
-pub const WI: u8 = 15;
-
-pub const CU: u8 = 16;
-// Added to the number of a form whose field may be empty.
-pub const OPTIONAL: u8 = 32;
+// A field of a row: of a form, or of a form or empty.
+#[derive(Clone, Copy, Debug, PartialEq, Eq)]
+pub enum Field {
+    Filled(Form),
+    Optional(Form),
+}
 
 // ---- the table
 
-// The forms of a row's ten values, each of which may be empty.
-const V0: u8 = OPTIONAL + PT;
-
-const V1: u8 = OPTIONAL + MO;
-
-const V2: u8 = OPTIONAL + PA;
-
-const V3: u8 = OPTIONAL + TR;
-
-const V4: u8 = OPTIONAL + NU;
-
-const V5: u8 = OPTIONAL + NU;
-
-const V6: u8 = OPTIONAL + CO;
-
-const V7: u8 = OPTIONAL + CO;
-
-const V8: u8 = OPTIONAL + CO;
-
-const V9: u8 = OPTIONAL + CU;
-
-// The form of a hold indicator, which may be empty; an account default may not.
-const IN: u8 = OPTIONAL + WI;
-
-// How many rows the table has. A row is named by its number.
-pub const SHAPES: u8 = 11;
-
-// The number of each row, for whoever writes a line of it.
-pub const SHAPE_T: u8 = 0;
-
-pub const SHAPE_E: u8 = 1;
-
-pub const SHAPE_R: u8 = 2;
-
-pub const SHAPE_O: u8 = 3;
-
-pub const SHAPE_D: u8 = 4;
-
-pub const SHAPE_M: u8 = 5;
-
-pub const SHAPE_N: u8 = 6;
-
-pub const SHAPE_A: u8 = 7;
-
-pub const SHAPE_Z: u8 = 8;
-
-// Q with hold indicator and account default.
-pub const SHAPE_QW: u8 = 9;
-
-pub const SHAPE_Q: u8 = 10;
-
-// The most fields that stand after a letter.
-const FIELDS: usize = 15;
-
-// The letter of each row.
-const LETTERS: [u8; 11] = [
-    b'T', b'E', b'R', b'O', b'D', b'M', b'N', b'A', b'Z', b'Q', b'Q',
+// The fields after each row's letter: N has those of M, and Z those of A. They are statics, so that none is copied.
+static FIELDS_T: [Field; 7] = [
+    Filled(Csd),
+    Filled(Day),
+    Filled(TypeNumber),
+    Filled(Object),
+    Filled(Processing),
+    Filled(Day),
+    Filled(Day),
 ];
 
-// How many fields stand after each row's letter.
-const COUNTS: [usize; 11] = [7, 5, 9, 6, 5, 15, 15, 7, 7, 13, 11];
+static FIELDS_E: [Field; 5] = [
+    Filled(Csd),
+    Filled(Day),
+    Filled(TypeNumber),
+    Filled(Object),
+    Filled(Day),
+];
 
-// The forms of the fields after each row's letter, each row by itself: a table of all would be made anew at each use.
-// What stands after the last field is never read.
-const FORMS_T: [u8; FIELDS] = [CS, DY, TY, OB, PR, DY, DY, 0, 0, 0, 0, 0, 0, 0, 0];
+static FIELDS_R: [Field; 9] = [
+    Filled(Csd),
+    Filled(Day),
+    Filled(TypeNumber),
+    Filled(Object),
+    Filled(Sequence),
+    Filled(Sign),
+    Filled(Criteria),
+    Filled(Day),
+    Filled(Day),
+];
 
-const FORMS_E: [u8; FIELDS] = [CS, DY, TY, OB, DY, 0, 0, 0, 0, 0, 0, 0, 0, 0, 0];
+static FIELDS_O: [Field; 6] = [
+    Filled(Csd),
+    Filled(Day),
+    Filled(TypeNumber),
+    Filled(Object),
+    Filled(Sequence),
+    Filled(Sequence), // the new one
+];
 
-const FORMS_R: [u8; FIELDS] = [CS, DY, TY, OB, SQ, SG, CR, DY, DY, 0, 0, 0, 0, 0, 0];
+static FIELDS_D: [Field; 5] = [
+    Filled(Csd),
+    Filled(Day),
+    Filled(TypeNumber),
+    Filled(Object),
+    Filled(Sequence),
+];
 
-const FORMS_O: [u8; FIELDS] = [CS, DY, TY, OB, SQ, SQ, 0, 0, 0, 0, 0, 0, 0, 0, 0];
+static FIELDS_M: [Field; 15] = [
+    Filled(Csd),
+    Filled(Day),
+    Filled(TypeNumber),
+    Filled(Object),
+    Filled(Sequence),
+    Optional(PartyType),
+    Optional(Movement),
+    Optional(Payment),
+    Optional(Transaction),
+    Optional(Number),
+    Optional(Number),
+    Optional(Code),
+    Optional(Code),
+    Optional(Code),
+    Optional(Currency),
+];
 
-const FORMS_D: [u8; FIELDS] = [CS, DY, TY, OB, SQ, 0, 0, 0, 0, 0, 0, 0, 0, 0, 0];
+static FIELDS_A: [Field; 7] = [
+    Filled(Csd),
+    Filled(Day),
+    Filled(Kind),
+    Filled(Number),
+    Filled(Code),
+    Filled(Day),
+    Filled(Day),
+];
 
-const FORMS_M: [u8; FIELDS] = [CS, DY, TY, OB, SQ, V0, V1, V2, V3, V4, V5, V6, V7, V8, V9];
+// How many fields a Q has without hold indicator and account default.
+const WITHOUT_WISHES: usize = 11;
 
-const FORMS_N: [u8; FIELDS] = [CS, DY, TY, OB, SQ, V0, V1, V2, V3, V4, V5, V6, V7, V8, V9];
+static FIELDS_Q: [Field; 13] = [
+    Filled(Csd),
+    Filled(Day),
+    Filled(Object),
+    Filled(PartyType),
+    Optional(Movement),
+    Optional(Payment),
+    Optional(Transaction),
+    Optional(Currency),
+    Filled(Number), // party
+    Filled(Number), // account
+    Filled(Number), // security
+    Optional(Wish), // hold indicator
+    Filled(Wish), // account default
+];
 
-const FORMS_A: [u8; FIELDS] = [CS, DY, KI, NU, CO, DY, DY, 0, 0, 0, 0, 0, 0, 0, 0];
+// The table's rows, named by their letters. A letter may have several, of different lengths: Q may carry two more
+// fields, a hold indicator and an account default.
+#[derive(Clone, Copy, Debug, PartialEq, Eq)]
+pub enum Shape {
+    T,
+    E,
+    R,
+    O,
+    D,
+    M,
+    N,
+    A,
+    Z,
+    QuestionWithWishes,
+    Question,
+}
 
-const FORMS_Z: [u8; FIELDS] = [CS, DY, KI, NU, CO, DY, DY, 0, 0, 0, 0, 0, 0, 0, 0];
+impl Shape {
+    // In the table's order.
+    pub const ALL: [Shape; 11] = [
+        Shape::T,
+        Shape::E,
+        Shape::R,
+        Shape::O,
+        Shape::D,
+        Shape::M,
+        Shape::N,
+        Shape::A,
+        Shape::Z,
+        Shape::QuestionWithWishes,
+        Shape::Question,
+    ];
 
-const FORMS_QW: [u8; FIELDS] = [CS, DY, OB, PT, V1, V2, V3, V9, NU, NU, NU, IN, WI, 0, 0];
-
-const FORMS_Q: [u8; FIELDS] = [CS, DY, OB, PT, V1, V2, V3, V9, NU, NU, NU, 0, 0, 0, 0];
-
-// The index of a row; past the end the shorter Q's.
-fn row(shape: u8) -> usize
-    ensures { Row shape result }
-{
-    if shape < SHAPES {
-        return shape as usize;
+    // The letter of a row.
+    pub fn letter(self) -> u8
+        ensures { result ≡ letter_byte (row_of self).letter }
+    {
+        match self {
+            Shape::T => b'T',
+            Shape::E => b'E',
+            Shape::R => b'R',
+            Shape::O => b'O',
+            Shape::D => b'D',
+            Shape::M => b'M',
+            Shape::N => b'N',
+            Shape::A => b'A',
+            Shape::Z => b'Z',
+            Shape::QuestionWithWishes => b'Q',
+            Shape::Question => b'Q',
+        }
     }
-    SHAPE_Q as usize
-}
 
-// The letter of a row.
-pub fn shape_letter(shape: u8) -> u8
-    ensures { result ≡ letter_byte (shape_at shape).letter }
-{
-    LETTERS[row(shape)]
-}
-
-// How many fields stand after a row's letter.
-pub fn form_count(shape: u8) -> usize
-    ensures { Counted shape result }
-{
-    COUNTS[row(shape)]
-}
-
-// The number of the form of a row's field k; past the last field a csd's.
-pub fn form_number(shape: u8, k: usize) -> u8
-    ensures { form_at result ≡ get_or (forms_at shape) k csd_form }
-{
-    if k >= FIELDS {
-        return CS;
-    }
-    match shape {
-        SHAPE_T => FORMS_T[k],
-        SHAPE_E => FORMS_E[k],
-        SHAPE_R => FORMS_R[k],
-        SHAPE_O => FORMS_O[k],
-        SHAPE_D => FORMS_D[k],
-        SHAPE_M => FORMS_M[k],
-        SHAPE_N => FORMS_N[k],
-        SHAPE_A => FORMS_A[k],
-        SHAPE_Z => FORMS_Z[k],
-        SHAPE_QW => FORMS_QW[k],
-        _ => FORMS_Q[k],
+    // The fields after a row's letter.
+    pub fn fields(self) -> &'static [Field]
+        ensures forms { map field_of result.now ≡ forms_of self }
+        ensures few { length result.now ≤ 15 }
+    {
+        match self {
+            Shape::T => &FIELDS_T,
+            Shape::E => &FIELDS_E,
+            Shape::R => &FIELDS_R,
+            Shape::O => &FIELDS_O,
+            Shape::D => &FIELDS_D,
+            Shape::M => &FIELDS_M,
+            Shape::N => &FIELDS_M,
+            Shape::A => &FIELDS_A,
+            Shape::Z => &FIELDS_A,
+            Shape::QuestionWithWishes => &FIELDS_Q,
+            Shape::Question => &FIELDS_Q[..WITHOUT_WISHES],
+        }
     }
 }

@@ -1,167 +1,227 @@
 -- Ranges by the numbers read at a place, and the criteria that a row's values fill.
-use Rattle.std.proofs.Common.{◌≡◌, ℕ, zero, suc, ◌+◌, ◌*◌, ◌^◌, ◌<◌, ◌≤◌, Bool, true, false, not, ◌&&◌, eqb, ltb, List, [], ◌∷◌, length, drop, refl, ap, ◌∙◌, arith, lit≤, ltb-false, ltb-true, lt-ltb, ne_eqb}
-use mathlib.Core.Bool.{and-false}
-use native.Mathlib.Nat.{pow-succ'}
+use Rattle.std.proofs.Common.{◌≡◌, ℕ, zero, suc, ◌+◌, ◌*◌, Bool, true, false, not, ◌&&◌, ◌||◌, eqb, leb, List, [], ◌∷◌, drop, sym, refl, ap, ap₂, ◌∙◌, arith, le-leb, ne_eqb}
+use Rattle.std.specs.Prelude.{Option, Some, None}
+use mathlib.Core.Bool.{and-true, and-false}
+use borrow.Author.Tests.{not-true, not-false}
 use Rattle.tables.specs.Bytes.{one, two, three, four, number}
 use Rattle.tables.specs.Count.{bit}
-use Rattle.tables.proofs.Counts.{cases, bit_most}
+use Rattle.tables.proofs.Counts.{cases}
 use Rattle.meaning.specs.Fields.{within}
-use Rattle.meaning.specs.Forms.{Form, is_word, letters, code, holds, holds_all, optional, up_to, party_type_form, movement_form, payment_form, number_form, transaction_form, currency_form, ten_values}
+use Rattle.meaning.specs.Forms.{Form, code, holds, holds_all, optional, up_to, party_type_form, movement_form, payment_form, number_form, transaction_form, currency_form, ten_values}
 use Rattle.meaning.specs.Keys.{filled}
-use Rattle.meaning.specs.Sound.{days_fit, key_fits, type_fits, rule_fits, row_fits, period_fits}
-use Rattle.records.specs.Said.{type_of, rule_of, row_of, period_of}
+use Rattle.meaning.specs.Sound.{days_fit, key_fits, type_fits, rule_fits, period_fits}
+use Rattle.records.specs.Said.{type_of, rule_of, period_of}
 use Rattle.soundness.specs.Reads.{type_read, rule_read, row_read, period_read, key_holds}
-use Rattle.soundness.specs.Alike.{no_criteria, filled_in, filled_or, one_more}
-
-pub hold_fits : (p o : ℕ) {r h : Bool} → r ≡ not h → h ≡ (eqb p 3 && eqb o 2) → r ≡ not (eqb p 3 && eqb o 2)
-hold_fits p o e f = rw (e, f)
+use Rattle.soundness.specs.Alike.{filled_in, filled_or_none, one_more}
+use Rattle.soundness.proofs.Options.{some_none, some_same}
 
 module _ (b : List ℕ) (at : ℕ) where
-  pub type_fits_lem : {x o p f l : ℕ} {r k y z d s n : Bool} → r ≡ (k && y) → y ≡ (z && d) → z ≡ (s && n)
-      → s ≡ within 1 3 p → n ≡ not (eqb p 3 && eqb o 2) → k ≡ key_fits x o → d ≡ days_fit f l
-      → x ≡ number one b at 1 → o ≡ number one b at 2 → p ≡ number one b at 3 → f ≡ number four b at 4 → l ≡ number four b at 8
-      → r ≡ type_fits (type_of (type_read b at))
+  pub type_fits_lem : {x o p f l : ℕ} {k d : Bool} → k ≡ key_fits x o → d ≡ days_fit f l → x ≡ number one b at 1
+      → o ≡ number one b at 2 → p ≡ number one b at 3 → f ≡ number four b at 4 → l ≡ number four b at 8
+      → (k && ((within 1 3 p && not (eqb p 3 && eqb o 2)) && d)) ≡ type_fits (type_of (type_read b at))
   unfolding type_fits type_of type_read holds
-  type_fits_lem e f g h i k l m n o p q = rw (e, f, g, h, i, k, l, m, n, o, p, q)
+  type_fits_lem k l m n o p q = rw (k, l, m, n, o, p, q)
 
-  pub key_fits_lem : {x o q : ℕ} {r k s : Bool} → r ≡ (k && s) → k ≡ key_fits x o → s ≡ within 1 99 q → x ≡ number one b at 1
-      → o ≡ number one b at 2 → q ≡ number one b at 3 → r ≡ key_holds b at
+  pub key_fits_lem : {x o q : ℕ} {k : Bool} → k ≡ key_fits x o → x ≡ number one b at 1 → o ≡ number one b at 2
+      → q ≡ number one b at 3 → (k && within 1 99 q) ≡ key_holds b at
   unfolding key_holds holds
-  key_fits_lem e f g h i j = rw (e, f, g, h, i, j)
+  key_fits_lem f h i j = rw (f, h, i, j)
 
-  pub rule_fits_lem : {x c f l : ℕ} {r k y z d s n : Bool} → r ≡ (k && y) → y ≡ (z && d) → z ≡ (s && n) → s ≡ within 1 2 x
-      → n ≡ within 1 1023 c → k ≡ key_holds b at → d ≡ days_fit f l → x ≡ number one b at 4 → c ≡ number two b at 5
-      → f ≡ number four b at 7 → l ≡ number four b at 11 → r ≡ rule_fits (rule_of (rule_read b at))
+  pub rule_fits_lem : {x c f l : ℕ} {k d : Bool} → k ≡ key_holds b at → d ≡ days_fit f l → x ≡ number one b at 4
+      → c ≡ number two b at 5 → f ≡ number four b at 7 → l ≡ number four b at 11
+      → (k && ((within 1 2 x && within 1 1023 c) && d)) ≡ rule_fits (rule_of (rule_read b at))
   unfolding rule_fits rule_of rule_read key_holds holds
-  rule_fits_lem e f g h i j k l m n o = rw (e, f, g, h, i, j, k, l, m, n, o)
+  rule_fits_lem j k l m n o = rw (j, k, l, m, n, o)
 
-  pub period_fits_lem : {x n c f l : ℕ} {r o y s k m d : Bool} → r ≡ (o && y) → o ≡ (s && k) → y ≡ (m && d) → s ≡ within 1 3 x
-      → k ≡ within 1 999999 n → m ≡ holds code c → d ≡ days_fit f l → x ≡ number one b at 1 → n ≡ number three b at 2
-      → c ≡ number two b at 5 → f ≡ number four b at 7 → l ≡ number four b at 11 → r ≡ period_fits (period_of (period_read b at))
+  pub period_fits_lem : {x n c f l : ℕ} {m d : Bool} → m ≡ holds code c → d ≡ days_fit f l → x ≡ number one b at 1
+      → n ≡ number three b at 2 → c ≡ number two b at 5 → f ≡ number four b at 7 → l ≡ number four b at 11
+      → ((within 1 3 x && within 1 999999 n) && (m && d)) ≡ period_fits (period_of (period_read b at))
   unfolding period_fits period_of period_read holds
-  period_fits_lem e f g h i j k l m n o p = rw (e, f, g, h, i, j, k, l, m, n, o, p)
+  period_fits_lem j k l m n o p = rw (j, k, l, m, n, o, p)
 
 -- ---- criteria
 
-filled_cons : (x : ℕ) (v : List ℕ) → filled (x ∷ v) ≡ bit (ltb 0 x) + 2 * filled v
+filled_cons : (x : ℕ) (v : List ℕ) → filled (x ∷ v) ≡ one_more x (filled v)
 filled_cons zero v = omega arith
-filled_cons (suc x) v = omega (arith, ap bit (lt-ltb 0 (suc x) (omega arith)))
+filled_cons (suc x) v = omega (arith, ap bit (ap not (ne_eqb (suc x) 0 (λ z. omega (arith, z)))))
 
--- one value more, by what is asked on the way
+three_filled : (x y z : ℕ) (v : List ℕ) → filled (x ∷ y ∷ z ∷ v) ≡ one_more x (one_more y (one_more z (filled v)))
+three_filled x y z v =
+    filled_cons x (y ∷ z ∷ v) ∙ ap (one_more x) (filled_cons y (z ∷ v) ∙ ap (one_more y) (filled_cons z v))
 
-pub stopped : (f : Bool) (x n : ℕ) → n ≡ no_criteria → no_criteria ≡ one_more f x n
-unfolding one_more
-stopped f x n e = rw (e, and-false f)
+four_filled : (x y z u : ℕ) → filled (x ∷ y ∷ z ∷ u ∷ []) ≡ one_more x (one_more y (one_more z (one_more u 0)))
+four_filled x y z u =
+    three_filled x y z (u ∷ []) ∙ ap (λ n. one_more x (one_more y (one_more z n))) (filled_cons u [])
 
-module _ (φ : Form) (x n : ℕ) where
-  pub empty_more : (n ≡ no_criteria → ⊥) → x ≡ 0 → 2 * n ≡ one_more (holds (optional φ) x) x n
-  unfolding one_more holds
-  empty_more z e = rw (e, ne_eqb n no_criteria z) (omega arith)
+up_to_or_none : (m x : ℕ) → leb x m ≡ (eqb x 0 || within 1 m x)
+up_to_or_none m zero = le-leb 0 m (omega arith)
+up_to_or_none m (suc x) = rw (ne_eqb (suc x) 0 (λ z. omega (arith, z)), le-leb 1 (suc x) (omega arith))
 
-  module _ {f : Bool} (filled_one : x ≡ 0 → ⊥) (said : f ≡ holds φ x) where
-    as_filled : holds (optional φ) x ≡ f
-    unfolding holds
-    as_filled = rw (ne_eqb x 0 filled_one, said)
+up_fits : (m x : ℕ) → leb x m ≡ holds (optional (up_to m)) x
+unfolding holds
+up_fits m x = up_to_or_none m x
 
-    pub filled_more : (n ≡ no_criteria → ⊥) → f ≡ true → 2 * n + 1 ≡ one_more (holds (optional φ) x) x n
-    unfolding one_more
-    filled_more z e = rw (as_filled, e, ne_eqb n no_criteria z, lt-ltb 0 x (positive x filled_one)) (omega arith)
-      where
-        positive : (d : ℕ) → (d ≡ 0 → ⊥) → 0 < d
-        positive d z = cases (ltb 0 d) (λ t. ltb-true 0 d t) (λ t. absurd (z (omega (arith, ltb-false 0 d t))))
+party_fits : (x : ℕ) → leb x 3 ≡ holds (optional party_type_form) x
+unfolding holds
+party_fits x = up_to_or_none 3 x
 
-    pub unfit : f ≡ false → no_criteria ≡ one_more (holds (optional φ) x) x n
-    unfolding one_more
-    unfit e = rw (as_filled, e)
+movement_fits : (x : ℕ) → leb x 2 ≡ holds (optional movement_form) x
+unfolding holds
+movement_fits x = up_to_or_none 2 x
 
--- the same of the tests as they are made
-module _ (x n : ℕ) {f : Bool} (filled_one : x ≡ 0 → ⊥) where
-  pub up_filled : (most : ℕ) → f ≡ within 1 most x → (n ≡ no_criteria → ⊥) → f ≡ true
-      → 2 * n + 1 ≡ one_more (holds (optional (up_to most)) x) x n
-  unfolding holds
-  up_filled most e = filled_more (up_to most) x n filled_one e
+payment_fits : (x : ℕ) → leb x 2 ≡ holds (optional payment_form) x
+unfolding holds
+payment_fits x = up_to_or_none 2 x
 
-  pub up_unfit : (most : ℕ) → f ≡ within 1 most x → f ≡ false → no_criteria ≡ one_more (holds (optional (up_to most)) x) x n
-  unfolding holds
-  up_unfit most e = unfit (up_to most) x n filled_one e
+and_four : (p q r s : Bool) → (p && (q && (r && (s && true)))) ≡ ((p && (q && r)) && s)
+and_four true true true s = and-true s
+and_four true true false s = refl
+and_four true false r s = refl
+and_four false q r s = refl
 
-  pub word_filled : (k : ℕ) → f ≡ is_word k x → (n ≡ no_criteria → ⊥) → f ≡ true
-      → 2 * n + 1 ≡ one_more (holds (optional (letters k)) x) x n
-  unfolding holds
-  word_filled k e = filled_more (letters k) x n filled_one e
+-- what is known where the values have criteria, and where they have none
 
-  pub word_unfit : (k : ℕ) → f ≡ is_word k x → f ≡ false → no_criteria ≡ one_more (holds (optional (letters k)) x) x n
-  unfolding holds
-  word_unfit k e = unfit (letters k) x n filled_one e
+module _ (φs : List Form) (v : List ℕ) (o : Option ℕ) (e : o ≡ filled_in φs v) where
+  in_none : o ≡ None → holds_all φs v ≡ false
+  unfolding filled_in
+  in_none f = cases (holds_all φs v) (λ t. absurd (some_none (sym (rw t at e) ∙ f))) (λ t. t)
 
--- a value in front of a list
-one_more_lem : (φ : Form) (x : ℕ) (φs : List Form) (v : List ℕ) (n : ℕ) → n ≡ filled_in φs v → filled v < no_criteria
-    → one_more (holds φ x) x n ≡ filled_in (φ ∷ φs) (x ∷ v)
-unfolding one_more filled_in holds_all
-one_more_lem φ x φs v n e l =
-    rw e
-    (cases (holds_all φs v)
-    (λ t. rw (t, ne_eqb (filled v) no_criteria (λ z. omega (arith, l, z)), filled_cons x v))
-    (λ t. rw (t, and-false (holds φ x))))
+  in_some : (n : ℕ) → o ≡ Some n → (holds_all φs v ≡ true) × (n ≡ filled v)
+  unfolding filled_in
+  in_some n f =
+      cases (holds_all φs v) (λ t. (t, some_same (sym f ∙ rw t at e)))
+      (λ t. absurd (some_none (sym f ∙ rw t at e)))
 
-nothing_filled : 0 ≡ filled_in [] []
-unfolding filled_in holds_all
-nothing_filled = refl
-
-filled_below : (v : List ℕ) → filled v < 2 ^ length v
-filled_below [] = omega arith
-filled_below (x ∷ v) = omega (arith, filled_cons x v, bit_most (ltb 0 x), filled_below v, pow-succ' 2 (length v))
-
--- a value in front of a list of at most nine
-next_filled : (φ : Form) (φs : List Form) (v : List ℕ) {x n r y : ℕ} → 2 ^ length v ≤ no_criteria → n ≡ filled_in φs v
-    → r ≡ one_more (holds φ x) x n → x ≡ y → r ≡ filled_in (φ ∷ φs) (y ∷ v)
-next_filled φ φs v {x} {n} {r} {y} l e f g =
-    rw (f, g) (one_more_lem φ y φs v n e (omega (arith, l, filled_below v)))
+-- three values in front
+front_three : (φ ψ χ : Form) (φs : List Form) (x y z : ℕ) (v : List ℕ) → holds_all φs v ≡ true
+    → holds_all (φ ∷ ψ ∷ χ ∷ φs) (x ∷ y ∷ z ∷ v) ≡ (holds φ x && (holds ψ y && holds χ z))
+unfolding holds_all
+front_three φ ψ χ φs x y z v h = rw (h, and-true (holds χ z))
 
 module _ (b : List ℕ) (at : ℕ) where
   abbrev values : List ℕ
   values = (row_read b at).values
 
-  pub codes_filled : {x y z u p q s r : ℕ} → p ≡ one_more (holds (optional currency_form) u) u 0
-      → q ≡ one_more (holds (optional code) z) z p → s ≡ one_more (holds (optional code) y) y q
-      → r ≡ one_more (holds (optional code) x) x s → x ≡ number two b at 17 → y ≡ number two b at 19 → z ≡ number two b at 21
-      → u ≡ number three b at 23 → r ≡ filled_in (drop 6 ten_values) (drop 6 values)
-  unfolding row_read
-  codes_filled {x} {y} {z} {u} {p} {q} {s} e f g h i j k l =
-      next_filled (optional code) (drop 7 ten_values) (drop 7 values) (lit≤ tt)
-      (next_filled (optional code) (drop 8 ten_values) (drop 8 values) (lit≤ tt)
-      (next_filled (optional code) (drop 9 ten_values) (drop 9 values) (lit≤ tt)
-      (next_filled (optional currency_form) [] [] (lit≤ tt) nothing_filled e l) f k) g j) h i
+  -- codes and currency
 
-  pub names_filled : {x y z n p q r : ℕ} → n ≡ filled_in (drop 6 ten_values) (drop 6 values)
-      → p ≡ one_more (holds (optional (up_to 999999)) z) z n → q ≡ one_more (holds (optional (up_to 999999)) y) y p
-      → r ≡ one_more (holds (optional transaction_form) x) x q → x ≡ number four b at 7 → y ≡ number three b at 11
-      → z ≡ number three b at 14 → r ≡ filled_in (drop 3 ten_values) (drop 3 values)
-  unfolding row_read
-  names_filled e f g h i j k =
-      next_filled (optional transaction_form) (drop 4 ten_values) (drop 4 values) (lit≤ tt)
-      (next_filled (optional number_form) (drop 5 ten_values) (drop 5 values) (lit≤ tt)
-      (next_filled (optional number_form) (drop 6 ten_values) (drop 6 values) (lit≤ tt) e f k) g j) h i
+  module _ {x y z u : ℕ} {p q r s : Bool} (hp : p ≡ holds (optional code) x) (hq : q ≡ holds (optional code) y) (hr : r ≡ holds (optional code) z) (hs : s ≡ holds (optional currency_form) u) (ex : x ≡ number two b at 17) (ey : y ≡ number two b at 19) (ez : z ≡ number two b at 21) (eu : u ≡ number three b at 23) where
+    codes_each : holds_all (drop 6 ten_values) (drop 6 values) ≡ (p && (q && (r && (s && true))))
+    unfolding holds_all row_read
+    codes_each = rw (hp, hq, hr, hs, ex, ey, ez, eu)
 
-  pub all_filled : {x y z x' y' z' n p q r : ℕ} → n ≡ filled_in (drop 3 ten_values) (drop 3 values)
-      → p ≡ one_more (holds (optional (up_to 2)) z) z n → q ≡ one_more (holds (optional (up_to 2)) y) y p
-      → r ≡ one_more (holds (optional (up_to 3)) x) x q → x ≡ x' → y ≡ y' → z ≡ z' → x' ≡ number one b at 4
-      → y' ≡ number one b at 5 → z' ≡ number one b at 6 → r ≡ filled_or values
-  unfolding row_read filled_or filled_in holds
-  all_filled e f g h i j k l m n =
-      next_filled (optional party_type_form) (drop 1 ten_values) (drop 1 values) (lit≤ tt)
-      (next_filled (optional movement_form) (drop 2 ten_values) (drop 2 values) (lit≤ tt)
-      (next_filled (optional payment_form) (drop 3 ten_values) (drop 3 values) (lit≤ tt) e f (k ∙ n)) g (j ∙ m)) h (i ∙ l)
+    codes_hold : holds_all (drop 6 ten_values) (drop 6 values) ≡ ((p && (q && r)) && s)
+    codes_hold = codes_each ∙ and_four p q r s
 
-fit_filled : (v : List ℕ) → filled v < no_criteria → holds_all ten_values v ≡ not (eqb (filled_or v) no_criteria)
-unfolding filled_or
-fit_filled v l =
-    cases (holds_all ten_values v) (λ e. rw (e, ne_eqb (filled v) no_criteria (λ z. omega (arith, l, z)))) (λ e. rw e)
+    pub codes_unfit : not ((p && (q && r)) && s) ≡ true → None ≡ filled_in (drop 6 ten_values) (drop 6 values)
+    unfolding filled_in
+    codes_unfit t = rw (codes_hold, not-true ((p && (q && r)) && s) t)
 
--- A row is in its range exactly if its key is and it fills criteria.
-pub row_fits_lem : (b : List ℕ) (at : ℕ)
-    → row_fits (row_of (row_read b at)) ≡ (key_holds b at && not (eqb (filled_or (row_read b at).values) no_criteria))
-unfolding row_fits row_of row_read key_holds
-row_fits_lem b at =
-    ap (λ (t : Bool). key_holds b at && t)
-    (fit_filled (row_read b at).values (filled_below (row_read b at).values))
+    codes_sum : {k l m n : ℕ} → k ≡ one_more u 0 → l ≡ one_more z k → m ≡ one_more y l → n ≡ one_more x m
+        → n ≡ filled (drop 6 values)
+    unfolding row_read
+    codes_sum ek el em en =
+        rw (en, em, el, ek, ex, ey, ez, eu)
+        (sym (four_filled (number two b at 17) (number two b at 19) (number two b at 21) (number three b at 23)))
+
+    pub codes_filled : {k l m n : ℕ} → not ((p && (q && r)) && s) ≡ false → k ≡ one_more u 0 → l ≡ one_more z k
+        → m ≡ one_more y l → n ≡ one_more x m → Some n ≡ filled_in (drop 6 ten_values) (drop 6 values)
+    unfolding filled_in
+    codes_filled t ek el em en =
+        rw (codes_hold, not-false ((p && (q && r)) && s) t) (ap Some (codes_sum ek el em en))
+
+  -- transaction, security and account in front of them
+
+  module _ {o : Option ℕ} (eo : o ≡ filled_in (drop 6 ten_values) (drop 6 values)) where
+    names_fail : o ≡ None → holds_all (drop 3 ten_values) (drop 3 values) ≡ false
+    unfolding holds_all row_read
+    names_fail f = rw (in_none (drop 6 ten_values) (drop 6 values) o eo f, and-false, and-false, and-false)
+
+    pub names_none : o ≡ None → None ≡ filled_in (drop 3 ten_values) (drop 3 values)
+    unfolding filled_in
+    names_none f = rw (names_fail f)
+
+    module _ {c x y z : ℕ} {p : Bool} (ec : o ≡ Some c) (hp : p ≡ holds (optional transaction_form) x) (ex : x ≡ number four b at 7) (ey : y ≡ number three b at 11) (ez : z ≡ number three b at 14) where
+      names_each : holds_all (drop 3 ten_values) (drop 3 values) ≡ (holds (optional transaction_form) (number four b at 7) && (holds (optional number_form) (number three b at 11) && holds (optional number_form) (number three b at 14)))
+      unfolding row_read
+      names_each =
+          front_three (optional transaction_form) (optional number_form) (optional number_form) (drop 6 ten_values) (number four b at 7) (number three b at 11) (number three b at 14) (drop 6 values)
+          (in_some (drop 6 ten_values) (drop 6 values) o eo c ec).0
+
+      names_said : (p && (leb y 999999 && leb z 999999)) ≡ (holds (optional transaction_form) (number four b at 7) && (holds (optional number_form) (number three b at 11) && holds (optional number_form) (number three b at 14)))
+      names_said =
+          rw (hp, ex, ey, ez)
+          (ap₂ (λ s t. holds (optional transaction_form) (number four b at 7) && (s && t)) (up_fits 999999 (number three b at 11)) (up_fits 999999 (number three b at 14)))
+
+      names_hold : holds_all (drop 3 ten_values) (drop 3 values) ≡ (p && (leb y 999999 && leb z 999999))
+      names_hold = names_each ∙ sym names_said
+
+      pub names_unfit : not (p && (leb y 999999 && leb z 999999)) ≡ true
+          → None ≡ filled_in (drop 3 ten_values) (drop 3 values)
+      unfolding filled_in
+      names_unfit t = rw (names_hold, not-true (p && (leb y 999999 && leb z 999999)) t)
+
+      names_sum : {k l n : ℕ} → k ≡ one_more z c → l ≡ one_more y k → n ≡ one_more x l → n ≡ filled (drop 3 values)
+      unfolding row_read
+      names_sum ek el en =
+          rw (en, el, ek, (in_some (drop 6 ten_values) (drop 6 values) o eo c ec).1, ex, ey, ez)
+          (sym (three_filled (number four b at 7) (number three b at 11) (number three b at 14) (drop 6 values)))
+
+      pub names_filled : {k l n : ℕ} → not (p && (leb y 999999 && leb z 999999)) ≡ false → k ≡ one_more z c
+          → l ≡ one_more y k → n ≡ one_more x l → Some n ≡ filled_in (drop 3 ten_values) (drop 3 values)
+      unfolding filled_in
+      names_filled t ek el en =
+          rw (names_hold, not-false (p && (leb y 999999 && leb z 999999)) t) (ap Some (names_sum ek el en))
+
+  -- party type, movement and payment in front of those
+
+  module _ {o : Option ℕ} (eo : o ≡ filled_in (drop 3 ten_values) (drop 3 values)) where
+    all_fail : o ≡ None → holds_all ten_values values ≡ false
+    unfolding holds_all row_read
+    all_fail f = rw (in_none (drop 3 ten_values) (drop 3 values) o eo f, and-false, and-false, and-false)
+
+    pub all_none : o ≡ None → None ≡ filled_or_none values
+    unfolding filled_or_none
+    all_none f = rw (all_fail f)
+
+    module _ {c x y z : ℕ} (ec : o ≡ Some c) (ex : x ≡ number one b at 4) (ey : y ≡ number one b at 5) (ez : z ≡ number one b at 6) where
+      all_each : holds_all ten_values values ≡ (holds (optional party_type_form) (number one b at 4) && (holds (optional movement_form) (number one b at 5) && holds (optional payment_form) (number one b at 6)))
+      unfolding row_read
+      all_each =
+          front_three (optional party_type_form) (optional movement_form) (optional payment_form) (drop 3 ten_values) (number one b at 4) (number one b at 5) (number one b at 6) (drop 3 values)
+          (in_some (drop 3 ten_values) (drop 3 values) o eo c ec).0
+
+      all_said : (leb x 3 && (leb y 2 && leb z 2)) ≡ (holds (optional party_type_form) (number one b at 4) && (holds (optional movement_form) (number one b at 5) && holds (optional payment_form) (number one b at 6)))
+      all_said =
+          rw (ex, ey, ez)
+          (ap₂ ◌&&◌ (party_fits (number one b at 4)) (ap₂ ◌&&◌ (movement_fits (number one b at 5)) (payment_fits (number one b at 6))))
+
+      all_hold : holds_all ten_values values ≡ (leb x 3 && (leb y 2 && leb z 2))
+      all_hold = all_each ∙ sym all_said
+
+      unfit_said : not (leb x 3 && (leb y 2 && leb z 2)) ≡ true → None ≡ filled_or_none values
+      unfolding filled_or_none
+      unfit_said t = rw (all_hold, not-true (leb x 3 && (leb y 2 && leb z 2)) t)
+
+      all_sum : {k l n : ℕ} → k ≡ one_more z c → l ≡ one_more y k → n ≡ one_more x l → n ≡ filled values
+      unfolding row_read
+      all_sum ek el en =
+          rw (en, el, ek, (in_some (drop 3 ten_values) (drop 3 values) o eo c ec).1, ex, ey, ez)
+          (sym (three_filled (number one b at 4) (number one b at 5) (number one b at 6) (drop 3 values)))
+
+      filled_said : {k l n : ℕ} → not (leb x 3 && (leb y 2 && leb z 2)) ≡ false → k ≡ one_more z c
+          → l ≡ one_more y k → n ≡ one_more x l → Some n ≡ filled_or_none values
+      unfolding filled_or_none
+      filled_said t ek el en =
+          rw (all_hold, not-false (leb x 3 && (leb y 2 && leb z 2)) t) (ap Some (all_sum ek el en))
+
+  module _ {c x y z x' y' z' : ℕ} {o : Option ℕ} where
+    pub all_unfit : not (leb x 3 && (leb y 2 && leb z 2)) ≡ true → x ≡ x' → y ≡ y' → z ≡ z' → x' ≡ number one b at 4
+        → y' ≡ number one b at 5 → z' ≡ number one b at 6 → o ≡ Some c
+        → o ≡ filled_in (drop 3 ten_values) (drop 3 values) → None ≡ filled_or_none values
+    all_unfit t fx fy fz ex ey ez ec eo = unfit_said eo ec (fx ∙ ex) (fy ∙ ey) (fz ∙ ez) t
+
+    pub all_filled : {k l n : ℕ} → n ≡ one_more x l → l ≡ one_more y k → k ≡ one_more z c → o ≡ Some c
+        → o ≡ filled_in (drop 3 ten_values) (drop 3 values) → not (leb x 3 && (leb y 2 && leb z 2)) ≡ false → x ≡ x'
+        → y ≡ y' → z ≡ z' → x' ≡ number one b at 4 → y' ≡ number one b at 5 → z' ≡ number one b at 6
+        → Some n ≡ filled_or_none values
+    all_filled en el ek ec eo t fx fy fz ex ey ez = filled_said eo ec (fx ∙ ex) (fy ∙ ey) (fz ∙ ez) t ek el en

@@ -6,11 +6,14 @@ use borrow.Author.Tests.{not-false}
 use Rattle.tables.specs.Bytes.{byte_at, Width, one, two, three, four, number, numbers}
 use Rattle.tables.specs.Count.{every, all_below}
 use Rattle.tables.proofs.Counts.{cases, both, agree, all_at, all_put}
+use Rattle.places.specs.Layout.{book_size}
 use Rattle.chains.specs.Sizes.{block_places}
 use Rattle.chains.specs.Blocks.{zero_from, Wide, FreeFirst}
 use Rattle.records.specs.Free.{all_zero, type_zero, rule_zero, row_zero, period_zero}
 use Rattle.soundness.specs.Reads.{type_read, rule_read, row_read, period_read, eight_at}
 use Rattle.soundness.specs.Buckets.{front_word, tail_word}
+use Rattle.soundness.specs.Kind as Kinds
+use Rattle.soundness.specs.Kinds.{free_at}
 use Rattle.soundness.proofs.WordReads.{words_zero}
 use Rattle.soundness.proofs.SameWords.{rule_key_widths, kind_widths, front_widths, middle_widths, tail_widths, rule_key_word, kind_word, front_word_lem, middle_word_lem, tail_word_lem}
 
@@ -32,29 +35,25 @@ module _ (b : List ℕ) (at : ℕ) where
   key_zero : {x : ℕ} → x ≡ number four b at 0 → eqb x 0 ≡ all_zero (numbers rule_key_widths b at 0)
   key_zero {x} e = words_zero rule_key_widths b at 0 x (e ∙ rule_key_word b at)
 
-  pub type_free : {x y : ℕ} {r : Bool} → r ≡ (eqb x 0 && eqb y 0) → x ≡ number four b at 0 → y ≡ eight_at b at 4
-      → r ≡ type_zero (type_read b at)
-  unfolding type_zero type_read
-  type_free d e f =
-      rw (d, key_zero e, days_zero 4 f) (zero_split (numbers rule_key_widths b at 0) (numbers day_widths b at 4))
+  pub type_free : {x y : ℕ} → x ≡ number four b at 0 → y ≡ eight_at b at 4
+      → (eqb x 0 && eqb y 0) ≡ free_at b Kinds.Types at
+  unfolding free_at type_zero type_read
+  type_free e f =
+      rw (key_zero e, days_zero 4 f) (zero_split (numbers rule_key_widths b at 0) (numbers day_widths b at 4))
 
-  pub rule_free : {x y z : ℕ} {r s : Bool} → r ≡ (eqb x 0 && s) → s ≡ (eqb y 0 && eqb z 0) → x ≡ number four b at 0
-      → y ≡ number three b at 4 → z ≡ eight_at b at 7 → r ≡ rule_zero (rule_read b at)
-  unfolding rule_zero rule_read
-  rule_free {x} {y} {z} d c e f g =
-      rw (d, c, key_zero e, words_zero (one ∷ two ∷ []) b at 4 y (f ∙ omega arith), days_zero 7 g)
+  pub rule_free : {x y z : ℕ} → x ≡ number four b at 0 → y ≡ number three b at 4 → z ≡ eight_at b at 7
+      → (eqb x 0 && (eqb y 0 && eqb z 0)) ≡ free_at b Kinds.Rules at
+  unfolding free_at rule_zero rule_read
+  rule_free {x} {y} {z} e f g =
+      rw (key_zero e, words_zero (one ∷ two ∷ []) b at 4 y (f ∙ omega arith), days_zero 7 g)
       (ap (λ (t : Bool). all_zero (numbers rule_key_widths b at 0) && t) (zero_split (numbers (one ∷ two ∷ []) b at 4) (numbers day_widths b at 7))
       ∙ zero_split (numbers rule_key_widths b at 0) (numbers (one ∷ two ∷ []) b at 4 ++ numbers day_widths b at 7))
 
-  pub row_free : {x y z w : ℕ} {r p q : Bool} → r ≡ (p && q) → p ≡ (eqb x 0 && eqb y 0) → q ≡ (eqb z 0 && eqb w 0)
-      → x ≡ number four b at 0 → y ≡ front_word (row_read b at).values → z ≡ eight_at b at 11
-      → w ≡ tail_word (row_read b at).values → r ≡ row_zero (row_read b at)
-  unfolding row_zero row_read
-  row_free {x} {y} {z} {w} d c a e f g h =
+  pub row_free : {x y z w : ℕ} → x ≡ number four b at 0 → y ≡ front_word (row_read b at).values → z ≡ eight_at b at 11
+      → w ≡ tail_word (row_read b at).values → ((eqb x 0 && eqb y 0) && (eqb z 0 && eqb w 0)) ≡ free_at b Kinds.Rows at
+  unfolding free_at row_zero row_read
+  row_free {x} {y} {z} {w} e f g h =
       rw (
-        d,
-        c,
-        a,
         key_zero e,
         words_zero front_widths b at 4 y (f ∙ front_word_lem b at),
         words_zero middle_widths b at 11 z (g ∙ middle_word_lem b at),
@@ -64,15 +63,11 @@ module _ (b : List ℕ) (at : ℕ) where
       )
       (zero_split (numbers rule_key_widths b at 0 ++ numbers front_widths b at 4) (numbers middle_widths b at 11 ++ numbers tail_widths b at 19))
 
-  pub period_free : {x y z w : ℕ} {r p q : Bool} → r ≡ (p && q) → p ≡ (eqb x 0 && eqb y 0) → q ≡ (eqb z 0 && eqb w 0)
-      → x ≡ number two b at 0 → y ≡ number three b at 2 → z ≡ number two b at 5 → w ≡ eight_at b at 7
-      → r ≡ period_zero (period_read b at)
-  unfolding period_zero period_read
-  period_free {x} {y} {z} {w} d c a e f g h =
+  pub period_free : {x y z w : ℕ} → x ≡ number two b at 0 → y ≡ number three b at 2 → z ≡ number two b at 5
+      → w ≡ eight_at b at 7 → ((eqb x 0 && eqb y 0) && (eqb z 0 && eqb w 0)) ≡ free_at b Kinds.Periods at
+  unfolding free_at period_zero period_read
+  period_free {x} {y} {z} {w} e f g h =
       rw (
-        d,
-        c,
-        a,
         words_zero kind_widths b at 0 x (e ∙ kind_word b at),
         words_zero (three ∷ []) b at 2 y (f ∙ omega arith),
         words_zero (two ∷ []) b at 5 z (g ∙ omega arith),
@@ -256,7 +251,7 @@ module _ (b : List ℕ) (from width : ℕ) where
   -- a place but the last, and what follows it, ends within the block
 
   pub first_byte : (at n : ℕ) → n * width ≤ (block_places - 1) * width → at ≡ from + n * width
-      → from + block_places * width ≤ length b → Wide width → at + (0 + 1) ≤ length b
+      → from + block_places * width ≤ book_size → Wide width → at + (0 + 1) ≤ book_size
   first_byte at n l e h w = omega (arith, w.least)
 
   pub first_few : (n : ℕ) → n < block_places - 1 → (n + 1) * width ≤ (block_places - 1) * width
@@ -275,6 +270,9 @@ module _ (b : List ℕ) (from width : ℕ) where
         let y : (zero_from b from (n * width) && zero_from b (from + n * width) width) ≡ true = rw m.free z in
         rw s at (sym (zero_join b from (n * width) width) ∙ y);
   }
+
+  pub first_done : (n : ℕ) → FreeFirst b from width n → n ≡ block_places - 1 → FreeFirst b from width (block_places - 1)
+  first_done n m e = rw e at m
 
   pub first_at : (at n : ℕ) → at ≡ from + n * width → at + width ≡ from + (n + 1) * width
   first_at at n e = omega (arith, add-mul n 1 width)

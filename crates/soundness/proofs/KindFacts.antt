@@ -10,8 +10,8 @@ use Rattle.chains.specs.Blocks.{zero_from, Wide}
 use Rattle.chains.proofs.Blocking.{zero_numbers}
 use Rattle.soundness.specs.Reads.{type_read, rule_read, row_read, period_read}
 use Rattle.soundness.specs.Kinds.{table_of, address_of, csd_at, free_at, bucket_at, alike_at, fit_at}
-use Rattle.soundness.specs.declared.kinds.Kind.{Kind}
-use Rattle.soundness.specs.declared.kinds.Kind.TheVariants as Kinds
+use Rattle.soundness.specs.Kind.{Kind}
+use Rattle.soundness.specs.Kind as Kinds
 use Rattle.soundness.proofs.Records.{
   type_only,
   type_back,
@@ -37,13 +37,6 @@ kind_few Kinds.Rules = omega arith
 kind_few Kinds.Rows = omega arith
 kind_few Kinds.Periods = omega arith
 
--- the table of a kind says which it is
-pub kind_own : (kind : Kind) → (table_of kind).kind ≡ kind
-kind_own Kinds.Types = refl
-kind_own Kinds.Rules = refl
-kind_own Kinds.Rows = refl
-kind_own Kinds.Periods = refl
-
 pub kind_wide : (kind : Kind) → Wide (table_of kind).width
 kind_wide Kinds.Types = record { least = omega arith; most = omega arith }
 kind_wide Kinds.Rules = record { least = omega arith; most = omega arith }
@@ -58,6 +51,13 @@ kind_blocks Kinds.Types i l e = omega arith
 kind_blocks Kinds.Rules i l e = omega arith
 kind_blocks Kinds.Rows i l e = omega arith
 kind_blocks Kinds.Periods i l e = omega arith
+
+-- A table has only whole blocks.
+pub kind_whole : (kind : Kind) → (table_of kind).places % block_places ≡ 0
+kind_whole Kinds.Types = refl
+kind_whole Kinds.Rules = refl
+kind_whole Kinds.Rows = refl
+kind_whole Kinds.Periods = refl
 
 pub kind_block : (kind : Kind) (i : ℕ) → i + block_places ≤ (table_of kind).places
     → address_of kind i + block_places * (table_of kind).width ≤ book_size

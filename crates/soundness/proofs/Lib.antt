@@ -1,3 +1,4 @@
+pub mod Options
 pub mod Records
 pub mod KindFacts
 pub mod KindReturns

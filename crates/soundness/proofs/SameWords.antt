@@ -11,6 +11,8 @@ use Rattle.records.specs.Asks.{type_meets, rule_meets, row_meets, period_meets}
 use Rattle.soundness.specs.Reads.{Bytes, type_read, rule_read, row_read, period_read, eight_at}
 use Rattle.soundness.specs.Alike.{type_alike, rule_alike, row_alike, period_alike, typed_by, ruled_by}
 use Rattle.soundness.specs.Buckets.{front_word, middle_word, tail_word}
+use Rattle.soundness.specs.Kind as Kinds
+use Rattle.soundness.specs.Kinds.{alike_at}
 use Rattle.soundness.proofs.WordReads.{word, words_same}
 
 -- ---- the words of a place
@@ -107,8 +109,8 @@ module _ (b : List ℕ) (at other : ℕ) where
         ∙ ap (λ (t : Bool). is 0 && (is 1 && t)) (and-true (is 2))
 
     pub type_alike_lem : x ≡ number three b other 0 → y ≡ number three b at 0
-        → eqb x y ≡ type_alike (type_read b at) (type_read b other)
-    unfolding type_alike type_read type_meets is_type type_of
+        → eqb x y ≡ alike_at b Kinds.Types at other
+    unfolding alike_at type_alike type_read type_meets is_type type_of
     type_alike_lem e f = key_same e f
 
     pub typed_by_lem : x ≡ number three b other 0 → y ≡ number three b at 0
@@ -122,8 +124,8 @@ module _ (b : List ℕ) (at other : ℕ) where
         ∙ turned (is 0) (is 1) (is 2) (is 3)
 
     pub rule_alike_lem : x ≡ number four b other 0 → y ≡ number four b at 0
-        → eqb x y ≡ rule_alike (rule_read b at) (rule_read b other)
-    unfolding rule_alike rule_read rule_meets is_rule rule_of
+        → eqb x y ≡ alike_at b Kinds.Rules at other
+    unfolding alike_at rule_alike rule_read rule_meets is_rule rule_of
     rule_alike_lem e f = rule_same e f
 
     -- what else is asked beside a rule's key
@@ -186,23 +188,23 @@ module _ (b : List ℕ) (at other : ℕ) (h : Bytes b) where
 
   -- beside the rule's key the values decide
   module _ {x y : ℕ} (mine_key : x ≡ number four b other 0) (their_key : y ≡ number four b at 0) where
-    pub row_key_no : (x ≡ y → ⊥) → false ≡ row_alike (row_read b at) (row_read b other)
-    unfolding row_alike row_read row_meets is_row of_rule row_of
+    pub row_key_no : (x ≡ y → ⊥) → false ≡ alike_at b Kinds.Rows at other
+    unfolding alike_at row_alike row_read row_meets is_row of_rule row_of
     row_key_no n = key_no b at other h mine_key their_key n (same mine theirs)
 
-    row_said : x ≡ y → same mine theirs ≡ row_alike (row_read b at) (row_read b other)
-    unfolding row_alike row_read row_meets is_row of_rule row_of
+    row_said : x ≡ y → same mine theirs ≡ alike_at b Kinds.Rows at other
+    unfolding alike_at row_alike row_read row_meets is_row of_rule row_of
     row_said q = key_yes b at other h mine_key their_key q (same mine theirs)
 
     module _ {u v : ℕ} (q : x ≡ y) (mine_front : u ≡ front_word mine) (their_front : v ≡ front_word theirs) where
-      pub row_front_no : (u ≡ v → ⊥) → false ≡ row_alike (row_read b at) (row_read b other)
+      pub row_front_no : (u ≡ v → ⊥) → false ≡ alike_at b Kinds.Rows at other
       row_front_no n =
           first_no (part front_widths 4) (part middle_widths 11 && part tail_widths 19) (sym (front_same mine_front their_front) ∙ ne_eqb u v n)
           ∙ sym values_split
           ∙ row_said q
 
       module _ {m k : ℕ} (p : u ≡ v) (mine_middle : m ≡ eight_at b at 11) (their_middle : k ≡ eight_at b other 11) where
-        pub row_middle_no : (m ≡ k → ⊥) → false ≡ row_alike (row_read b at) (row_read b other)
+        pub row_middle_no : (m ≡ k → ⊥) → false ≡ alike_at b Kinds.Rows at other
         row_middle_no n =
             rest_no (part front_widths 4) (part middle_widths 11 && part tail_widths 19)
             (first_no (part middle_widths 11) (part tail_widths 19) (sym (middle_same mine_middle their_middle) ∙ ne_eqb m k n))
@@ -210,7 +212,7 @@ module _ (b : List ℕ) (at other : ℕ) (h : Bytes b) where
             ∙ row_said q
 
         pub row_alike_lem : {s t : ℕ} → m ≡ k → s ≡ tail_word mine → t ≡ tail_word theirs
-            → eqb s t ≡ row_alike (row_read b at) (row_read b other)
+            → eqb s t ≡ alike_at b Kinds.Rows at other
         row_alike_lem {s} {t} o e f =
             tail_same e f
             ∙ first_yes (part middle_widths 11) (part tail_widths 19) (sym (middle_same mine_middle their_middle) ∙ eq-eqb m k o)
@@ -246,26 +248,26 @@ module _ (b : List ℕ) (at other : ℕ) where
   also = same_number && (same_attribute && (begun && ended))
 
 module _ (b : List ℕ) (at other : ℕ) (h : Bytes b) {x y : ℕ} (e : x ≡ number two b other 0) (f : y ≡ number two b at 0) where
-  period_said : (eqb x y && (also b at other)) ≡ period_alike (period_read b at) (period_read b other)
-  unfolding period_alike period_read period_meets clash period_of
+  period_said : (eqb x y && (also b at other)) ≡ alike_at b Kinds.Periods at other
+  unfolding alike_at period_alike period_read period_meets clash period_of
   period_said =
       ap (λ (t : Bool). t && (also b at other))
       (words_same kind_widths b other at 0 x y h (e ∙ kind_word b other) (f ∙ kind_word b at))
       ∙ period_turned (is b at other 0) (is b at other 1) (same_number b at other) (same_attribute b at other) (begun b at other) (ended b at other)
 
-  pub period_key_no : (x ≡ y → ⊥) → false ≡ period_alike (period_read b at) (period_read b other)
+  pub period_key_no : (x ≡ y → ⊥) → false ≡ alike_at b Kinds.Periods at other
   period_key_no z =
       first_no (eqb x y) (also b at other) (ne_eqb x y z) ∙ period_said
 
   pub period_number_no : {n m : ℕ} → n ≡ number three b other 2 → m ≡ number three b at 2 → (n ≡ m → ⊥)
-      → false ≡ period_alike (period_read b at) (period_read b other)
+      → false ≡ alike_at b Kinds.Periods at other
   period_number_no {n} {m} i j z =
       rest_no (eqb x y) (also b at other)
       (first_no (same_number b at other) ((same_attribute b at other) && ((begun b at other) && (ended b at other))) (rw (← i, ← j) (ne_eqb n m z)))
       ∙ period_said
 
   pub period_attribute_no : {n m : ℕ} → n ≡ number two b other 5 → m ≡ number two b at 5 → (n / 100 ≡ m / 100 → ⊥)
-      → false ≡ period_alike (period_read b at) (period_read b other)
+      → false ≡ alike_at b Kinds.Periods at other
   period_attribute_no {n} {m} i j z =
       rest_no (eqb x y) (also b at other)
       (rest_no (same_number b at other) ((same_attribute b at other) && ((begun b at other) && (ended b at other)))
@@ -273,7 +275,7 @@ module _ (b : List ℕ) (at other : ℕ) (h : Bytes b) {x y : ℕ} (e : x ≡ nu
       ∙ period_said
 
   pub period_later : {n m : ℕ} → n ≡ number four b other 7 → m ≡ number four b at 11 → m < n
-      → false ≡ period_alike (period_read b at) (period_read b other)
+      → false ≡ alike_at b Kinds.Periods at other
   period_later {n} {m} i j z =
       rest_no (eqb x y) (also b at other)
       (rest_no (same_number b at other) ((same_attribute b at other) && ((begun b at other) && (ended b at other)))
@@ -284,7 +286,7 @@ module _ (b : List ℕ) (at other : ℕ) (h : Bytes b) {x y : ℕ} (e : x ≡ nu
   pub period_alike_lem : {n m u v p q s t : ℕ} → x ≡ y → n ≡ number three b other 2 → m ≡ number three b at 2 → n ≡ m
       → u ≡ number two b other 5 → v ≡ number two b at 5 → u / 100 ≡ v / 100 → p ≡ number four b other 7
       → q ≡ number four b at 11 → p ≤ q → s ≡ number four b at 7 → t ≡ number four b other 11
-      → leb s t ≡ period_alike (period_read b at) (period_read b other)
+      → leb s t ≡ alike_at b Kinds.Periods at other
   period_alike_lem {n} {m} {u} {v} {p} {q} {s} {t} k i j o a c g d l w r z =
       rw (r, z)
       (first_yes (begun b at other) (ended b at other) (rw (← d, ← l) (le-leb p q w))

@@ -6,63 +6,64 @@ use Rattle.tables.specs.Count.{all_below}
 use Rattle.tables.proofs.Counts.{both}
 use Rattle.places.specs.Layout.{book_size, type_places, rule_places, row_places, period_places}
 use Rattle.book.specs.Sound.{sound}
+use Rattle.chains.specs.declared.Seen.{Seen}
 use Rattle.chains.specs.Chains.{AllPassed}
 use Rattle.soundness.specs.Kinds.{csd_of, bucket_of, right_of, ChainedOf, RulesChained, rules_sound, rows_sound, RulesSound}
-use Rattle.soundness.specs.declared.kinds.Kind.TheVariants as Kinds
+use Rattle.soundness.specs.Kind as Kinds
 use Rattle.soundness.proofs.Decided.{decided}
 use Rattle.soundness.proofs.WholeTable.{types_whole, rules_whole, rows_whole, periods_whole}
 
 -- Where a stage has not failed its chains are whole.
 
-pub types_chained : (b : List ℕ) (t : Bool) (head next : List ℕ)
-    → AllPassed (csd_of b Kinds.Types) (bucket_of b Kinds.Types) type_places (right_of b Kinds.Types) t head next
-    → not t ≡ false → ChainedOf b Kinds.Types head next type_places
-types_chained b t head next m f = m.chained (not-false t f)
+pub types_chained : (b : List ℕ) (t : Bool) (s : Seen)
+    → AllPassed (csd_of b Kinds.Types) (bucket_of b Kinds.Types) type_places (right_of b Kinds.Types) t s
+    → not t ≡ false → ChainedOf b Kinds.Types s type_places
+types_chained b t s m f = m.chained (not-false t f)
 
-pub rules_chained : (b : List ℕ) (t : Bool) (head next : List ℕ) → RulesSound b t head next → not t ≡ false
-    → RulesChained b head next
+pub rules_chained : (b : List ℕ) (t : Bool) (s : Seen) → RulesSound b t s → not t ≡ false
+    → RulesChained b s
 unfolding rules_sound
-rules_chained b t head next m f = record {
+rules_chained b t s m f = record {
   right = (both (all_below (right_of b Kinds.Types) type_places) (all_below (right_of b Kinds.Rules) rule_places) (sym m.answered ∙ not-false t f)).1;
   chained = m.chained (not-false t f);
 }
 
 -- ---- types and rules
 
-pub types_fail : (b : List ℕ) (t : Bool) (starts links head next : List ℕ)
-    → AllPassed (csd_of b Kinds.Types) (bucket_of b Kinds.Types) type_places (right_of b Kinds.Types) t starts links
-    → not t ≡ true → RulesSound b false head next
+pub types_fail : (b : List ℕ) (t : Bool) (s s' : Seen)
+    → AllPassed (csd_of b Kinds.Types) (bucket_of b Kinds.Types) type_places (right_of b Kinds.Types) t s
+    → not t ≡ true → RulesSound b false s'
 unfolding rules_sound
-types_fail b t starts links head next m f =
+types_fail b t s s' m f =
     record { answered = rw (← m.answered, not-true t f); chained = λ y. absurd (false≢true y) }
 
-pub rules_end : (b : List ℕ) (t r : Bool) (starts links head next : List ℕ)
-    → AllPassed (csd_of b Kinds.Rules) (bucket_of b Kinds.Rules) rule_places (right_of b Kinds.Rules) r head next
-    → AllPassed (csd_of b Kinds.Types) (bucket_of b Kinds.Types) type_places (right_of b Kinds.Types) t starts links
-    → not t ≡ false → RulesSound b r head next
+pub rules_end : (b : List ℕ) (t r : Bool) (s s' : Seen)
+    → AllPassed (csd_of b Kinds.Rules) (bucket_of b Kinds.Rules) rule_places (right_of b Kinds.Rules) r s'
+    → AllPassed (csd_of b Kinds.Types) (bucket_of b Kinds.Types) type_places (right_of b Kinds.Types) t s
+    → not t ≡ false → RulesSound b r s'
 unfolding rules_sound
-rules_end b t r starts links head next n m f =
+rules_end b t r s s' n m f =
     record { answered = rw (← m.answered, not-false t f) n.answered; chained = λ y. n.chained y }
 
 -- ---- rows
 
-pub rules_fail : (b : List ℕ) (t : Bool) (head next : List ℕ) → RulesSound b t head next → not t ≡ true
+pub rules_fail : (b : List ℕ) (t : Bool) (s : Seen) → RulesSound b t s → not t ≡ true
     → false ≡ rows_sound b
 unfolding rows_sound
-rules_fail b t head next m f = rw (← m.answered, not-true t f)
+rules_fail b t s m f = rw (← m.answered, not-true t f)
 
-pub rows_end : (b : List ℕ) (t r : Bool) (starts links head next : List ℕ)
-    → AllPassed (csd_of b Kinds.Rows) (bucket_of b Kinds.Rows) row_places (right_of b Kinds.Rows) r head next
-    → RulesSound b t starts links → not t ≡ false → r ≡ rows_sound b
+pub rows_end : (b : List ℕ) (t r : Bool) (s s' : Seen)
+    → AllPassed (csd_of b Kinds.Rows) (bucket_of b Kinds.Rows) row_places (right_of b Kinds.Rows) r s'
+    → RulesSound b t s → not t ≡ false → r ≡ rows_sound b
 unfolding rows_sound
-rows_end b t r starts links head next n m f = rw (← m.answered, not-false t f) n.answered
+rows_end b t r s s' n m f = rw (← m.answered, not-false t f) n.answered
 
 -- ---- periods
 
-pub periods_end : (b : List ℕ) (r : Bool) (head next : List ℕ)
-    → AllPassed (csd_of b Kinds.Periods) (bucket_of b Kinds.Periods) period_places (right_of b Kinds.Periods) r head next
+pub periods_end : (b : List ℕ) (r : Bool) (s : Seen)
+    → AllPassed (csd_of b Kinds.Periods) (bucket_of b Kinds.Periods) period_places (right_of b Kinds.Periods) r s
     → r ≡ all_below (right_of b Kinds.Periods) period_places
-periods_end b r head next m = m.answered
+periods_end b r s m = m.answered
 
 -- ---- the whole book
 

@@ -34,8 +34,8 @@ use Rattle.soundness.specs.Kinds.{
   fit_of,
   right_of,
 }
-use Rattle.soundness.specs.declared.kinds.Kind.{Kind}
-use Rattle.soundness.specs.declared.kinds.Kind.TheVariants as Kinds
+use Rattle.soundness.specs.Kind.{Kind}
+use Rattle.soundness.specs.Kind as Kinds
 use Rattle.soundness.proofs.KindFacts.{kind_nobody, kind_only, kind_back, kind_self}
 
 -- the parts of a test in another order

@@ -1,10 +1,9 @@
 -- When two records cannot stand in one book, and which record is another's owner (document 01, 'Records'). Assumes
 -- nothing.
-use Rattle.std.specs.Prelude.{ℕ, ◌+◌, ◌*◌, Bool, cond, not, ◌&&◌, List, ◌==◌, nat_lt}
+use Rattle.std.specs.Prelude.{ℕ, ◌+◌, ◌*◌, Bool, cond, not, ◌&&◌, List, ◌==◌, Option, Some, None}
 use Rattle.tables.specs.Count.{bit}
 use Rattle.meaning.specs.Forms.{Form, holds_all, ten_values}
 use Rattle.meaning.specs.Keys.{filled}
-use Rattle.places.specs.Layout.{zero_row}
 use Rattle.places.specs.declared.RestrictionType.{RestrictionType}
 use Rattle.places.specs.declared.Rule.{Rule}
 use Rattle.places.specs.declared.Row.{Row}
@@ -23,10 +22,10 @@ type_alike t s = s.csd == t.csd && type_meets (Types.Named t.number t.object) (t
 
 unfoldable pub rule_alike : Rule → Rule → Bool
 rule_alike t s =
-    (s.csd == t.csd) && rule_meets (Rules.Named t.number t.object t.sequence) (row_of zero_row) (rule_of s)
+    s.csd == t.csd && rule_meets (Rules.Named t.number t.object t.sequence) (rule_of s)
 
 unfoldable pub row_alike : Row → Row → Bool
-row_alike t s = s.csd == t.csd && row_meets Rows.Same (row_of t) (row_of s)
+row_alike t s = s.csd == t.csd && row_meets (Rows.Same t) (row_of s)
 
 unfoldable pub period_alike : Period → Period → Bool
 period_alike t s = s.csd == t.csd && period_meets (Periods.Clash t) (period_of s)
@@ -37,24 +36,16 @@ unfoldable pub typed_by : Rule → RestrictionType → Bool
 typed_by r s = s.csd == r.csd && type_meets (Types.Named r.number r.object) (type_of s)
 
 unfoldable pub ruled_by : Row → Rule → Bool
-ruled_by w s = s.csd == w.csd && rule_meets Rules.Fills (row_of w) (rule_of s)
+ruled_by w s = s.csd == w.csd && rule_meets (Rules.Fills w) (rule_of s)
 
 -- ---- the criteria that a row's values fill where each is in its range
 
--- no criteria are that many: they are at most 1023
-abbrev pub no_criteria : ℕ
-no_criteria = 1024
+unfoldable pub filled_in : List Form → List ℕ → Option ℕ
+filled_in φs v = cond (holds_all φs v) (Some (filled v)) None
 
--- a number that no criteria on the way come to
-abbrev pub criteria_room : ℕ
-criteria_room = 2000000
+unfoldable pub filled_or_none : List ℕ → Option ℕ
+filled_or_none v = cond (holds_all ten_values v) (Some (filled v)) None
 
-unfoldable pub filled_in : List Form → List ℕ → ℕ
-filled_in φs v = cond (holds_all φs v) (filled v) no_criteria
-
-unfoldable pub filled_or : List ℕ → ℕ
-filled_or v = cond (holds_all ten_values v) (filled v) no_criteria
-
--- the criteria with one value more in front, of which it is told whether it is in its range
-unfoldable pub one_more : Bool → ℕ → ℕ → ℕ
-one_more fit x n = cond (fit && not (n == no_criteria)) (bit (nat_lt 0 x) + 2 * n) no_criteria
+-- the criteria with one value more in front
+abbrev pub one_more : ℕ → ℕ → ℕ
+one_more x n = bit (not (x == 0)) + 2 * n

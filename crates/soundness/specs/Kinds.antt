@@ -1,13 +1,12 @@
 -- The tables of the book by kind: where their places are, and what soundness asks of the record at an address. A new
 -- table adds a line to each definition. Assumes nothing.
-use Rattle.std.specs.Prelude.{◌≡◌, ℕ, ◌+◌, ◌*◌, ◌<◌, ◌≤◌, Bool, true, cond, ◌&&◌, List, length}
+use Rattle.std.specs.Prelude.{◌≡◌, ℕ, ◌+◌, ◌*◌, Bool, true, cond, ◌&&◌, List, Option, Some, None}
 use Rattle.tables.specs.Count.{all_below}
 use Rattle.tables.specs.Bytes.{byte_at}
 use Rattle.tables.specs.Below.{any_below}
 use Rattle.meaning.specs.Records.{type_quota, rule_quota, row_quota, period_quota}
 use Rattle.meaning.specs.Sound.{type_fits, rule_fits, row_fits, period_fits}
 use Rattle.places.specs.Layout.{
-  book_size,
   type_base,
   type_width,
   type_places,
@@ -25,33 +24,36 @@ use Rattle.places.specs.Layout.{
 }
 use Rattle.records.specs.Said.{type_of, rule_of, row_of, period_of}
 use Rattle.records.specs.Free.{type_zero, rule_zero, row_zero, period_zero}
-use Rattle.chains.specs.Sizes.{buckets, most_places}
+use Rattle.chains.specs.declared.Seen.{Seen}
 use Rattle.chains.specs.Chains.{right, Chained}
 use Rattle.soundness.specs.Reads.{type_read, rule_read, row_read, period_read}
 use Rattle.soundness.specs.Alike.{type_alike, rule_alike, row_alike, period_alike, typed_by, ruled_by}
 use Rattle.soundness.specs.Buckets.{type_bucket, rule_bucket, row_bucket, period_bucket}
-use Rattle.soundness.specs.declared.kinds.Kind.{Kind}
-use Rattle.soundness.specs.declared.kinds.Kind.TheVariants as Kinds
-use Rattle.soundness.specs.declared.kinds.Table.{Table}
+use Rattle.soundness.specs.Kind.{Kind}
+use Rattle.soundness.specs.Kind as Kinds
+
+-- where the places of a table are, and how many of them a depository may have
+pub record Table : Type 0 where
+  pub start : ℕ
+  pub width : ℕ
+  pub places : ℕ
+  pub quota : ℕ
 
 abbrev pub table_of : Kind → Table
 table_of Kinds.Types = record {
-  kind = Kinds.Types;
   start = type_base;
   width = type_width;
   places = type_places;
   quota = type_quota;
 }
 table_of Kinds.Rules = record {
-  kind = Kinds.Rules;
   start = rule_base;
   width = rule_width;
   places = rule_places;
   quota = rule_quota;
 }
-table_of Kinds.Rows = record { kind = Kinds.Rows; start = row_base; width = row_width; places = row_places; quota = row_quota }
+table_of Kinds.Rows = record { start = row_base; width = row_width; places = row_places; quota = row_quota }
 table_of Kinds.Periods = record {
-  kind = Kinds.Periods;
   start = period_base;
   width = period_width;
   places = period_places;
@@ -103,9 +105,9 @@ module _ (b : List ℕ) where
   fit_at Kinds.Rows at = row_fits (row_of (row_read b at)) && any_below (ruled_in at) rule_places
   fit_at Kinds.Periods at = period_fits (period_of (period_read b at))
 
-  -- its bucket where it is so; else the number of buckets
-  unfoldable pub lone_at : Kind → ℕ → ℕ
-  lone_at kind at = cond (fit_at kind at) (bucket_at kind at) buckets
+  -- its bucket where it is so
+  unfoldable pub lone_at : Kind → ℕ → Option ℕ
+  lone_at kind at = cond (fit_at kind at) (Some (bucket_at kind at)) None
 
   -- ---- the record at place i
 
@@ -130,27 +132,13 @@ module _ (b : List ℕ) where
   -- ---- chains
 
   -- the places of a kind below i
-  abbrev pub ChainedOf : Kind → List ℕ → List ℕ → ℕ → Type 0
+  abbrev pub ChainedOf : Kind → Seen → ℕ → Type 0
   ChainedOf kind = Chained (csd_of kind) (bucket_of kind)
 
 -- the rules, each of them right, in chains
-pub record RulesChained (b starts links : List ℕ) : Type 0 where
+pub record RulesChained (b : List ℕ) (s : Seen) : Type 0 where
   pub right : all_below (right_of b Kinds.Rules) rule_places ≡ true
-  pub chained : ChainedOf b Kinds.Rules starts links rule_places
-
--- the chains of the table in which a record's owner is looked for, where it has one
-abbrev pub OwnersChained : List ℕ → Kind → List ℕ → List ℕ → Type 0
-OwnersChained b Kinds.Types starts links = Unit {0}
-OwnersChained b Kinds.Rules starts links = ChainedOf b Kinds.Types starts links type_places
-OwnersChained b Kinds.Rows starts links = RulesChained b starts links
-OwnersChained b Kinds.Periods starts links = Unit {0}
-
--- place i of the table t, in a book of the exact size
-pub record PlaceOf (b : List ℕ) (t : Table) (i : ℕ) : Type 0 where
-  pub sized : length b ≡ book_size
-  pub table : t ≡ table_of t.kind
-  pub few : t.places ≤ most_places
-  pub place : i < t.places
+  pub chained : ChainedOf b Kinds.Rules s rule_places
 
 -- ---- types and rules, with the rules' chains where all are right; and rows
 
@@ -161,6 +149,6 @@ unfoldable pub rows_sound : List ℕ → Bool
 unfolding rules_sound
 rows_sound b = rules_sound b && all_below (right_of b Kinds.Rows) row_places
 
-pub record RulesSound (b : List ℕ) (answer : Bool) (head next : List ℕ) : Type 0 where
+pub record RulesSound (b : List ℕ) (answer : Bool) (s : Seen) : Type 0 where
   pub answered : answer ≡ rules_sound b
-  pub chained : answer ≡ true → ChainedOf b Kinds.Rules head next rule_places
+  pub chained : answer ≡ true → ChainedOf b Kinds.Rules s rule_places

@@ -2,4 +2,5 @@ pub mod Places
 pub mod Reads
 pub mod Alike
 pub mod Buckets
+pub mod Kind
 pub mod Kinds

@@ -1,113 +1,66 @@
-// A table of the book as a value: its kind, and where its places are.
-ghost use Rattle.std.specs.Prelude.{◌≡◌, ◌+◌, ◌≤◌, length};
-ghost use Rattle.chains.specs.Sizes.{most_places};
-ghost use Rattle.soundness.specs.Kinds.{table_of, free_at, alike_at};
+// The records that have places in the book, and the name of each one's table in the definitions.
+ghost use Rattle.std.specs.Prelude.{◌≡◌, refl};
+ghost use Rattle.soundness.specs.Kind.{Kind};
+ghost use Rattle.soundness.specs.Kinds.{table_of};
 
-use crate::alike::{period_alike, row_alike, rule_alike, type_alike};
-use crate::free::{period_free, row_free, rule_free, type_free};
 use places::{Period, RestrictionType, Row, Rule};
 
-#[derive(Clone, Copy)]
-pub enum Kind {
-    Types,
-    Rules,
-    Rows,
-    Periods,
+pub trait Placed: places::Place {
+    ghost kind: { Kind };
+
+    ghost started: { Self.START ≡ (table_of kind).start };
+
+    ghost wide: { Self.WIDTH ≡ (table_of kind).width };
+
+    ghost many: { Self.PLACES ≡ (table_of kind).places };
+
+    ghost few: { Self.QUOTA ≡ (table_of kind).quota };
 }
 
-#[derive(Clone, Copy)]
-pub struct Table {
-    pub kind: Kind,
-    pub start: u16,
-    pub width: u8,
-    pub places: u16,
-    pub quota: u16,
+impl Placed for RestrictionType {
+    ghost kind = { Kind.Types };
+
+    ghost started = { refl };
+
+    ghost wide = { refl };
+
+    ghost many = { refl };
+
+    ghost few = { refl };
 }
 
-fn types() -> Table
-    ensures { result ≡ table_of Kind.Types }
-{
-    Table {
-        kind: Kind::Types,
-        start: RestrictionType::START,
-        width: RestrictionType::WIDTH,
-        places: RestrictionType::PLACES,
-        quota: RestrictionType::QUOTA,
-    }
+impl Placed for Rule {
+    ghost kind = { Kind.Rules };
+
+    ghost started = { refl };
+
+    ghost wide = { refl };
+
+    ghost many = { refl };
+
+    ghost few = { refl };
 }
 
-fn rules() -> Table
-    ensures { result ≡ table_of Kind.Rules }
-{
-    Table {
-        kind: Kind::Rules,
-        start: Rule::START,
-        width: Rule::WIDTH,
-        places: Rule::PLACES,
-        quota: Rule::QUOTA,
-    }
+impl Placed for Row {
+    ghost kind = { Kind.Rows };
+
+    ghost started = { refl };
+
+    ghost wide = { refl };
+
+    ghost many = { refl };
+
+    ghost few = { refl };
 }
 
-fn rows() -> Table
-    ensures { result ≡ table_of Kind.Rows }
-{
-    Table {
-        kind: Kind::Rows,
-        start: Row::START,
-        width: Row::WIDTH,
-        places: Row::PLACES,
-        quota: Row::QUOTA,
-    }
-}
+impl Placed for Period {
+    ghost kind = { Kind.Periods };
 
-fn periods() -> Table
-    ensures { result ≡ table_of Kind.Periods }
-{
-    Table {
-        kind: Kind::Periods,
-        start: Period::START,
-        width: Period::WIDTH,
-        places: Period::PLACES,
-        quota: Period::QUOTA,
-    }
-}
+    ghost started = { refl };
 
-pub(crate) fn table_of(kind: Kind) -> Table
-    ensures value { result ≡ table_of kind }
-    ensures places_le_most_places { result.places ≤ most_places }
-{
-    match kind {
-        Kind::Types => types(),
-        Kind::Rules => rules(),
-        Kind::Rows => rows(),
-        Kind::Periods => periods(),
-    }
-}
+    ghost wide = { refl };
 
-// ---- The record at an address, by the kind of its table.
+    ghost many = { refl };
 
-pub(crate) fn place_free(b: &[u8], kind: Kind, at: usize) -> bool
-    requires { at + (table_of kind).width ≤ length b.now }
-    ensures { result ≡ free_at b.now kind at }
-{
-    match kind {
-        Kind::Types => type_free(b, at),
-        Kind::Rules => rule_free(b, at),
-        Kind::Rows => row_free(b, at),
-        Kind::Periods => period_free(b, at),
-    }
-}
-
-// Whether it cannot stand beside the record at another address.
-pub(crate) fn alike(b: &[u8], kind: Kind, at: usize, other: usize) -> bool
-    requires kind_in_bounds { at + (table_of kind).width ≤ length b.now }
-    requires kind_in_bounds_2 { other + (table_of kind).width ≤ length b.now }
-    ensures { result ≡ alike_at b.now kind at other }
-{
-    match kind {
-        Kind::Types => type_alike(b, at, other),
-        Kind::Rules => rule_alike(b, at, other),
-        Kind::Rows => row_alike(b, at, other),
-        Kind::Periods => period_alike(b, at, other),
-    }
+    ghost few = { refl };
 }

@@ -1,128 +1,71 @@
-// Whether the record at an address is right by itself: its range, and that it has its owner, which is looked for in the
-// chains of the table before.
-ghost use Rattle.std.specs.Prelude.{◌≡◌, ◌+◌, ◌≤◌, ◌&&◌, length, ◌≢◌};
+// Whether a record has its owner, which is looked for in the chains of the table before.
+ghost use Rattle.std.specs.Prelude.{◌≡◌, ◌<◌, ◌&&◌, ◌≢◌};
 ghost use Rattle.tables.specs.Below.{any_below};
 ghost use Rattle.meaning.specs.Forms.{holds_all, ten_values};
-ghost use Rattle.places.specs.Layout.{book_size, type_width, rule_width, row_width, period_width, type_places, rule_places};
-ghost use Rattle.soundness.specs.Reads.{row_read};
-ghost use Rattle.soundness.specs.Kinds.{table_of, csd_at, typed_in, ruled_in, lone_at, ChainedOf, RulesChained, OwnersChained};
+ghost use Rattle.meaning.specs.Keys.{filled};
+ghost use Rattle.places.specs.Layout.{type_places, rule_places};
+ghost use Rattle.soundness.specs.Kind.{Kind};
+ghost use Rattle.soundness.specs.Reads.{type_read, rule_read, row_read};
+ghost use Rattle.soundness.specs.Alike.{typed_by, ruled_by};
+ghost use Rattle.soundness.specs.Kinds.{csd_at, typed_in, ruled_in, ChainedOf};
 
-use crate::alike::{ruled_by, typed_by};
-use crate::buckets::{
-    period_bucket, row_bucket, rule_bucket, rule_bucket_of, type_bucket, type_bucket_of,
-};
-use crate::fits::{NO_CRITERIA, filled, period_fits, rule_fits, type_fits};
-use crate::kinds::Kind;
-use chains::BUCKETS;
-use places::{RestrictionType, Rule, address};
+use crate::buckets::{rule_bucket_of, type_bucket_of};
+use crate::fits::filled;
+use crate::place::{Book, Place};
+use crate::walk::any;
+use chains::Seen;
+use places::{RestrictionType, Row, Rule};
+
+// Whether the type at another place is that of the rule.
+fn typed_by(book: Book<'_>, place: Place<Rule>, other: Place<RestrictionType>) -> bool
+    ensures { result ≡ typed_by (rule_read book.entry.bytes.now place.start) (type_read book.entry.bytes.now other.start) }
+{
+    book.three(other.start, 0) == book.three(place.start, 0)
+}
+
+// Whether the rule at another place is that of the row, which fills these criteria.
+fn ruled_by(book: Book<'_>, place: Place<Row>, other: Place<Rule>, criteria: u32) -> bool
+    requires { criteria ≡ filled (row_read book.bytes.now place.start).values }
+    ensures { result ≡ ruled_by (row_read book.entry.bytes.now place.start) (rule_read book.entry.bytes.now other.start) }
+{
+    if book.four(other.start, 0) != book.four(place.start, 0) {
+        return false;
+    }
+    book.two(other.start, 5) == criteria
+}
 
 // Whether a rule has its type.
-fn typed(b: &[u8], at: usize, starts: &[u16], links: &[u16]) -> bool
-    requires b_len { length b.now ≡ book_size }
-    requires rule_width_in_bounds { at + rule_width ≤ length b.now }
-    requires at_nonzero { csd_at b.now at ≢ 0 }
-    requires chained_of { ChainedOf b.now Kind.Types starts.now links.now type_places }
-    ensures { result ≡ any_below (typed_in b.now at) type_places }
+pub(crate) fn typed(book: Book<'_>, place: Place<Rule>, types: &Seen) -> bool
+    requires at_nonzero { csd_at book.bytes.now place.start ≢ 0 }
+    requires chained_of { ChainedOf book.bytes.now Kind.Types types.now type_places }
+    ensures { result ≡ any_below (typed_in book.entry.bytes.now place.start) type_places }
 {
-    let mut j = starts[type_bucket_of(b, at)];
-    while j != 0 {
-        let other = address(RestrictionType::START, RestrictionType::WIDTH, j - 1);
-        if typed_by(b, at, other as usize) {
-            return true;
-        }
-        j = links[(j - 1) as usize];
-    }
-    false
+    any(
+        types,
+        type_bucket_of(book, place),
+        |j: u16| -> bool
+            requires { j < type_places }
+            ensures { result ≡ typed_in book.entry.bytes.now place.start j }
+        { typed_by(book, place, Place::of(j)) },
+    )
 }
 
 // Whether a row's values are in their ranges, and it has its rule, with the criteria that it fills.
-fn ruled(b: &[u8], at: usize, starts: &[u16], links: &[u16]) -> bool
-    requires b_len { length b.now ≡ book_size }
-    requires row_width_in_bounds { at + row_width ≤ length b.now }
-    requires at_nonzero { csd_at b.now at ≢ 0 }
-    requires chained_of { ChainedOf b.now Kind.Rules starts.now links.now rule_places }
-    ensures { result ≡ (holds_all ten_values (row_read b.now at).values && any_below (ruled_in b.now at) rule_places) }
+pub(crate) fn ruled(book: Book<'_>, place: Place<Row>, rules: &Seen) -> bool
+    requires at_nonzero { csd_at book.bytes.now place.start ≢ 0 }
+    requires chained_of { ChainedOf book.bytes.now Kind.Rules rules.now rule_places }
+    ensures { result ≡ (holds_all ten_values (row_read book.entry.bytes.now place.start).values && any_below (ruled_in book.entry.bytes.now place.start) rule_places) }
 {
-    let criteria = filled(b, at);
-    if criteria == NO_CRITERIA {
+    let Some(criteria) = filled(book, place) else {
         return false;
-    }
-    let mut j = starts[rule_bucket_of(b, at)];
-    while j != 0 {
-        let other = address(Rule::START, Rule::WIDTH, j - 1);
-        if ruled_by(b, at, other as usize, criteria) {
-            return true;
-        }
-        j = links[(j - 1) as usize];
-    }
-    false
-}
-
-// ---- The bucket of a record that is right by itself; BUCKETS of any other.
-
-fn lone_type(b: &[u8], at: usize) -> usize
-    requires { at + type_width ≤ length b.now }
-    ensures { result ≡ lone_at b.now Kind.Types at }
-{
-    if type_fits(b, at) {
-        type_bucket(b, at)
-    } else {
-        BUCKETS
-    }
-}
-
-fn lone_rule(b: &[u8], at: usize, starts: &[u16], links: &[u16]) -> usize
-    requires b_len { length b.now ≡ book_size }
-    requires rule_width_in_bounds { at + rule_width ≤ length b.now }
-    requires at_nonzero { csd_at b.now at ≢ 0 }
-    requires chained_of { ChainedOf b.now Kind.Types starts.now links.now type_places }
-    ensures { result ≡ lone_at b.now Kind.Rules at }
-{
-    if !rule_fits(b, at) {
-        return BUCKETS;
-    }
-    if !typed(b, at, starts, links) {
-        return BUCKETS;
-    }
-    rule_bucket(b, at)
-}
-
-// A row's key is in its range, since it is that of a rule which is right.
-fn lone_row(b: &[u8], at: usize, starts: &[u16], links: &[u16]) -> usize
-    requires b_len { length b.now ≡ book_size }
-    requires row_width_in_bounds { at + row_width ≤ length b.now }
-    requires at_nonzero { csd_at b.now at ≢ 0 }
-    requires rules_chained { RulesChained b.now starts.now links.now }
-    ensures { result ≡ lone_at b.now Kind.Rows at }
-{
-    if !ruled(b, at, starts, links) {
-        return BUCKETS;
-    }
-    row_bucket(b, at)
-}
-
-fn lone_period(b: &[u8], at: usize) -> usize
-    requires { at + period_width ≤ length b.now }
-    ensures { result ≡ lone_at b.now Kind.Periods at }
-{
-    if period_fits(b, at) {
-        period_bucket(b, at)
-    } else {
-        BUCKETS
-    }
-}
-
-pub(crate) fn lone(b: &[u8], kind: Kind, at: usize, starts: &[u16], links: &[u16]) -> usize
-    requires b_len { length b.now ≡ book_size }
-    requires kind_in_bounds { at + (table_of kind).width ≤ length b.now }
-    requires at_nonzero { csd_at b.now at ≢ 0 }
-    requires owners_chained { OwnersChained b.now kind starts.now links.now }
-    ensures { result ≡ lone_at b.now kind at }
-{
-    match kind {
-        Kind::Types => lone_type(b, at),
-        Kind::Rules => lone_rule(b, at, starts, links),
-        Kind::Rows => lone_row(b, at, starts, links),
-        Kind::Periods => lone_period(b, at),
-    }
+    };
+    any(
+        rules,
+        rule_bucket_of(book, place),
+        |j: u16| -> bool
+            requires places { j < rule_places }
+            requires criteria { criteria ≡ filled (row_read book.bytes.now place.start).values }
+            ensures { result ≡ ruled_in book.entry.bytes.now place.start j }
+        { ruled_by(book, place, Place::of(j), criteria) },
+    )
 }

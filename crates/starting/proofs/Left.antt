@@ -4,7 +4,7 @@ use mathlib.Core.Path.{◌≡◌, refl, ap, sym, ◌∙◌}
 use mathlib.Core.Bool.{Bool, true, false, cond}
 use mathlib.Core.List.{List, [], ◌∷◌}
 use mathlib.Core.Logic.{inr}
-use mathlib.Core.Option.{some, none}
+use Rattle.std.specs.Prelude.{Option, Some, None}
 use native.Mathlib.Omega.{arith}
 use lib.ListN.{length, get_or}
 use borrow.Author.Tests.{eq-eqb, ne_eqb}
@@ -23,7 +23,6 @@ use Rattle.meaning.specs.Pending.{are_types, started}
 use Rattle.meaning.proofs.Good.{good_of_sound}
 use Rattle.meaning.proofs.Listed.{Listed}
 use Rattle.meaning.proofs.KeptPending.{kept_kind, day_started}
-use Rattle.memory.specs.Remembered.{types_in}
 use Rattle.memory.proofs.Remembering.{Bytes, are_types_lem, bytes_put, length_put}
 use Rattle.places.specs.Layout.{instruction_places, instruction_at}
 use Rattle.places.specs.declared.Kept.{Kept}
@@ -34,10 +33,13 @@ use Rattle.records.proofs.Tables.{inside, instruction_whole}
 use Rattle.records.proofs.Holds.{instruction_hold}
 use Rattle.book.specs.Lone.{lone_book}
 use Rattle.book.proofs.Lists.{lone_list, book_equal}
-use Rattle.pending.specs.OnBytes.{met_by, started_by, left_of, Remembering}
-use Rattle.pending.specs.declared.Met.{Met}
+use Rattle.meaning.specs.declared.Verdict.{Verdict}
+use Rattle.judge.specs.Within.{judged_within, exempted_within}
+use Rattle.memory.specs.Remembered.{types_in, type_bits}
+use Rattle.pending.specs.OnBytes.{asking_at, scope_at, kept_by, met_by, started_by, left_of, Remembering}
 use Rattle.pending.proofs.Meets.{started_right}
-use Rattle.starting.specs.Days.{kept, instructions_of, start_step, start_day, Ready, StartsDay}
+use Rattle.records.specs.Tables.{kept}
+use Rattle.starting.specs.Days.{instructions_of, start_step, start_day, Ready, StartsDay}
 use Rattle.starting.proofs.Started.{kept_lies, day_size}
 
 -- what the start of a day leaves of one instruction is in its range
@@ -50,7 +52,7 @@ one_listed k f = record {
 }
 
 fit_after : (m : M.Book) (day : ℕ) (k k' : M.Kept) → sound_lone m ≡ true → holds day_form day ≡ true → kept_fits k ≡ true
-    → started m day k ≡ some k' → kept_fits k' ≡ true
+    → started m day k ≡ Some k' → kept_fits k' ≡ true
 unfolding sift every
 fit_after m day k k' z d f e =
     let g = (day_started m (good_of_sound m z).types_fit (one_listed k f) day d).fit in
@@ -93,9 +95,19 @@ module _ (csd day : ℕ) (b : List ℕ) where
       abbrev i : Kept
       i = instruction_at b k
 
-      -- what was found there, over the book as it is when the place is reached
-      abbrev found : Met
+      -- what was found there, over the book as it is when the place is reached, and what is left if it is not rejected
+      abbrev found : Option Kept
       found = started_by (reached k) i day
+
+      abbrev v : Verdict
+      v = judged_within (reached k) (asking_at i day) (scope_at i) (type_bits i.remembered)
+
+      abbrev left : Kept
+      left = kept_by i day v (exempted_within (reached k) (asking_at i day) (scope_at i))
+
+      found_is : found ≡ cond v.rejected None (Some left)
+      unfolding started_by met_by
+      found_is = refl
 
       fits : kept_fits (instruction_of i) ≡ true
       unfolding instructions_of
@@ -115,59 +127,62 @@ module _ (csd day : ℕ) (b : List ℕ) where
           started_right (reached k) i day (ap sound_lone same ∙ r.lone) remembers
           ∙ ap (λ m. started m day (instruction_of i)) same
 
-      left_fits : found.rejected ≡ false → kept_fits (instruction_of found.left) ≡ true
+      left_fits : v.rejected ≡ false → kept_fits (instruction_of left) ≡ true
       left_fits e =
-          fit_after (lone_book csd b) day (instruction_of i) (instruction_of found.left) r.lone r.real fits
-          (sym found_right ∙ rw e)
+          fit_after (lone_book csd b) day (instruction_of i) (instruction_of left) r.lone r.real fits
+          (sym found_right ∙ ap left_of found_is ∙ rw e)
 
       own_bytes : Bytes i.remembered
       unfolding instruction_at
       own_bytes =
           (bytes_cons (r.bytes _) (bytes_cons (r.bytes _) (bytes_cons (r.bytes _) (bytes_cons (r.bytes _) (bytes_cons (r.bytes _) (bytes_cons (r.bytes _) (bytes_cons (r.bytes _) (bytes_cons (r.bytes _) (bytes_cons (r.bytes _) (bytes_cons (r.bytes _) (bytes_cons (r.bytes _) (bytes_cons (r.bytes _) (bytes_cons (r.bytes _) bytes_none))))))))))))).each
 
-      left_long : length found.left.remembered ≡ 13
-      unfolding started_by met_by instruction_at
+      left_long : length left.remembered ≡ 13
+      unfolding kept_by instruction_at
       left_long = length_put i.remembered _
 
-      left_bytes : Bytes found.left.remembered
-      unfolding started_by met_by
+      left_bytes : Bytes left.remembered
+      unfolding kept_by
       left_bytes = bytes_put i.remembered _ remembers.long own_bytes
 
-      left_csd : found.left.csd ≡ csd
-      unfolding started_by met_by
+      left_csd : left.csd ≡ csd
+      unfolding kept_by
       left_csd = own
 
       made_fits : Fits kept (start_step day (reached k) i)
-      unfolding start_step
+      unfolding start_step kept_by
       made_fits =
-          cases found.rejected
+          rw found_is
+          (cases v.rejected
           (λ e. rw e (vacant_fits kept kept_lies))
           (λ e.
           rw e
           (record {
-            holds = instruction_hold found.left (omega (arith, left_csd, r.high)) left_bytes (left_fits e);
-            whole = instruction_whole found.left left_long;
-          }))
+            holds = instruction_hold left (omega (arith, left_csd, r.high)) left_bytes (left_fits e);
+            whole = instruction_whole left left_long;
+          })))
 
       -- its place is the depository's with what is left, or free
       made_says : of_owner kept.csd kept.rec csd (start_step day (reached k) i) ≡ started (lone_book csd b) day (instruction_of i)
-      unfolding start_step
+      unfolding start_step kept_by started
       made_says =
-          cases found.rejected
+          rw found_is
+          (cases v.rejected
           (λ e. rw (e, ne_eqb 0 csd (λ z. omega (arith, z, r.low))) (ap_left e))
-          (λ e. rw (e, eq-eqb found.left.csd csd left_csd) (ap_left e))
+          (λ e. rw (e, eq-eqb left.csd csd left_csd) (ap_left e)))
         where
-          ap_left : {t : Bool} → found.rejected ≡ t
-              → cond t none (some (instruction_of found.left)) ≡ started (lone_book csd b) day (instruction_of i)
-          ap_left e = ap (λ t. cond t none (some (instruction_of found.left))) (sym e) ∙ found_right
+          ap_left : {t : Bool} → v.rejected ≡ t
+              → left_of (cond t None (Some left)) ≡ started (lone_book csd b) day (instruction_of i)
+          ap_left e = ap (λ t. left_of (cond t None (Some left))) (sym e) ∙ sym (ap left_of found_is) ∙ found_right
 
       -- and no other's
       made_own : (a : ℕ) → 1 ≤ a → (csd ≡ a → ⊥) → (start_step day (reached k) i).csd ≡ a → ⊥
-      unfolding start_step
+      unfolding start_step kept_by
       made_own a low d =
-          cases found.rejected
+          rw found_is
+          (cases v.rejected
           (λ e. rw e (λ z. omega arith))
-          (λ e. rw e (λ z. d (sym left_csd ∙ z)))
+          (λ e. rw e (λ z. d (sym left_csd ∙ z))))
 
 pub starts_day : StartsDay
 unfolding start_day instructions_of

@@ -1,8 +1,9 @@
 -- What the functions store, and what W leaves of the kept instructions of each depository.
 use Prim.Native.Nat.{ℕ, ◌+◌}
 use mathlib.Core.Path.{◌≡◌, refl, sym, ◌∙◌}
-use mathlib.Core.Bool.{true, false}
+use mathlib.Core.Bool.{true}
 use mathlib.Core.List.{List}
+use Rattle.std.specs.Prelude.{Option, unwrap_or}
 use native.Mathlib.Numerals.{add-one}
 use lib.ListN.{length}
 use borrow.Author.Tests.{eq-eqb, ne_eqb, eqb-true}
@@ -15,22 +16,16 @@ use Rattle.places.specs.Layout.{instruction_numbers, instruction_at, put_instruc
 use Rattle.places.specs.declared.Kept.{Kept}
 use Rattle.records.specs.Free.{all_zero}
 use Rattle.pending.specs.OnBytes.{started_by}
-use Rattle.pending.specs.declared.Met.{Met}
-use Rattle.starting.specs.Days.{kept, place_after, start_step, start_place}
+use Rattle.records.specs.Tables.{kept}
+use Rattle.starting.specs.Days.{start_step, start_place}
 
 -- ---- what the functions store
 
-pub cancelled : (r : Met) (x : Kept) → x ≡ zero_instruction → r.rejected ≡ true → x ≡ place_after r
-cancelled r x e f = e ∙ rw f
-
-pub not_cancelled : (r : Met) → r.rejected ≡ false → r.left ≡ place_after r
-not_cancelled r f = rw f
-
 module _ (b : List ℕ) (csd day i n : ℕ) (e : n ≡ (instruction_at b i).csd) where
-  pub stored_here : (b' : List ℕ) (k x : Kept) (r : Met) → b' ≡ put_instruction b i x → x ≡ place_after r
-      → r ≡ started_by b k day → k ≡ instruction_at b i → n ≡ csd → b' ≡ start_place csd day b i
+  pub stored_here : (b' : List ℕ) (k x z : Kept) (r : Option Kept) → b' ≡ put_instruction b i x → x ≡ unwrap_or r z
+      → z ≡ zero_instruction → r ≡ started_by b k day → k ≡ instruction_at b i → n ≡ csd → b' ≡ start_place csd day b i
   unfolding start_place sweep_at start_step
-  stored_here b' k x r f g h j o = f ∙ rw (eq-eqb (instruction_at b i).csd csd (sym e ∙ o), g, h, j)
+  stored_here b' k x z r f g y h j o = f ∙ rw (eq-eqb (instruction_at b i).csd csd (sym e ∙ o), g, y, h, j)
 
   pub passed_by : (n ≡ csd → ⊥) → b ≡ start_place csd day b i
   unfolding start_place sweep_at

@@ -1,45 +1,27 @@
 -- W over the places of kept instructions, which stand behind the book of today (docs/LAYOUT.md). Stated here, proved in
 -- proofs/Left. Assumes nothing.
-use Rattle.std.specs.Prelude.{ℕ, ◌≤◌, ◌<◌, ◌≡◌, true, cond, List, length}
+use Rattle.std.specs.Prelude.{ℕ, ◌≤◌, ◌<◌, ◌≡◌, true, List, length, Option, unwrap_or}
 use Rattle.tables.specs.Count.{every, sift}
 use Rattle.tables.specs.Bytes.{byte_at}
-use Rattle.tables.specs.Table.{Table, end, list_of}
+use Rattle.tables.specs.Table.{end, list_of}
 use Rattle.tables.specs.Sweep.{sweep_at, sweep_to}
 use Rattle.meaning.specs.Records as M
 use Rattle.meaning.specs.Forms.{holds, day as day_form}
 use Rattle.meaning.specs.Sound.{kept_fits, sound_lone}
 use Rattle.meaning.specs.Pending.{started}
-use Rattle.places.specs.Layout.{instruction_base, instruction_places, instruction_widths, instruction_numbers, instruction_from, instruction_at, put_instruction, zero_instruction}
+use Rattle.places.specs.Layout.{instruction_places, zero_instruction}
 use Rattle.places.specs.declared.Kept.{Kept}
-use Rattle.records.specs.Free.{all_zero}
-use Rattle.records.specs.Said.{instruction_of}
+use Rattle.records.specs.Tables.{kept}
 use Rattle.book.specs.Lone.{lone_book}
 use Rattle.pending.specs.OnBytes.{started_by}
-use Rattle.pending.specs.declared.Met.{Met}
-
--- the table of kept instructions, a value as the book's own tables are
-abbrev pub kept : Table Kept M.Kept
-kept = record {
-  start = instruction_base;
-  places = instruction_places;
-  quota = M.instruction_quota;
-  widths = instruction_widths;
-  shown = instruction_numbers;
-  from = instruction_from;
-  at = instruction_at;
-  put = put_instruction;
-  csd = λ r. r.csd;
-  free = λ r. all_zero (instruction_numbers r);
-  rec = instruction_of;
-}
 
 -- the kept instructions of a depository
 unfoldable pub instructions_of : ℕ → List ℕ → List M.Kept
 instructions_of a b = list_of kept a b
 
 -- a rejection at W cancels the instruction: its place is free
-abbrev pub place_after : Met → Kept
-place_after r = cond r.rejected zero_instruction r.left
+abbrev pub place_after : Option Kept → Kept
+place_after r = unwrap_or r zero_instruction
 
 -- what W stores at the place of an instruction
 unfoldable pub start_step : ℕ → List ℕ → Kept → Kept

@@ -3,29 +3,19 @@
 #![tactic(auto)]
 
 ghost use Rattle.std.specs.Prelude.{◌≡◌};
-ghost use Rattle.starting.specs.Days.{place_after, start_place, start_day};
+ghost use Rattle.starting.specs.Days.{start_place, start_day};
 
-use pending::{Met, start};
-use places::{Kept, instruction_at, instruction_csd};
-use stores::put_instruction;
+use pending::start;
+use places::{Kept, Place, csd_at, record_at};
+use stores::put;
 
-// What stands at the place afterwards: nothing where the instruction is rejected.
-fn place_after(r: Met) -> Kept
-    ensures { result ≡ place_after r }
-{
-    if r.rejected {
-        return Kept::zero();
-    }
-    r.left
-}
-
-// The instruction at a place, if it is the depository's.
+// The instruction at a place, if it is the depository's; nothing stands there afterwards where it is rejected.
 fn start_place(b: &mut [u8], i: u16, csd: u8, day: u32)
     ensures { b.new ≡ start_place csd day b.old i }
 {
-    if instruction_csd(b, i) == csd {
-        let met = start(b, instruction_at(b, i), day);
-        put_instruction(b, i, place_after(met));
+    if csd_at::<Kept>(b, i) == csd {
+        let left = start(b, record_at::<Kept>(b, i), day);
+        put(b, i, left.unwrap_or(Kept::default()));
     }
 }
 

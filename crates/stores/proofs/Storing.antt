@@ -7,7 +7,7 @@ use mathlib.Core.List.{List, [], ◌∷◌}
 use native.Mathlib.Nat.{add_assoc}
 use lib.ListN.{get_or}
 use Rattle.tables.specs.Bytes.{one, two, three, four, digits, bytes_of, puts}
-use Rattle.places.specs.Layout.{type_start, put_type, rule_start, put_rule, row_start, put_row, period_start, put_period, instruction_start, put_instruction}
+use Rattle.places.specs.Layout.{type_widths, type_numbers, rule_widths, rule_numbers, row_widths, row_numbers, period_widths, period_numbers, instruction_widths, instruction_numbers}
 use Rattle.places.specs.declared.RestrictionType.{RestrictionType}
 use Rattle.places.specs.declared.Rule.{Rule}
 use Rattle.places.specs.declared.Row.{Row}
@@ -31,20 +31,20 @@ pub pair_put : (b b0 b1 : List ℕ) (at x y : ℕ) (w0 w1 : ℕ) → b1 ≡ puts
 unfolding puts digits bytes_of
 pair_put b b0 b1 at x y w0 w1 h1 e1 h0 e0 = rw (h1, h0, e1, e0)
 
-pub type_put : (b b0 b1 : List ℕ) (i at : ℕ) (r : RestrictionType)
+pub type_put : (b b0 b1 : List ℕ) (at : ℕ) (r : RestrictionType)
     → b1 ≡ puts b0 at 4 (bytes_of (four ∷ four ∷ []) (r.first ∷ r.last ∷ []))
     → b0 ≡ puts b at 0 (bytes_of (one ∷ one ∷ one ∷ one ∷ []) (r.csd ∷ r.number ∷ r.object ∷ r.processing ∷ []))
-    → at ≡ type_start i → b1 ≡ put_type b i r
-unfolding puts digits bytes_of put_type
-type_put b b0 b1 i at r h1 h0 e = rw (h1, h0, e)
+    → b1 ≡ puts b at 0 (bytes_of type_widths (type_numbers r))
+unfolding puts digits bytes_of
+type_put b b0 b1 at r h1 h0 = rw (h1, h0)
 
-pub rule_put : (b b0 b1 b2 b3 : List ℕ) (i at : ℕ) (r : Rule) (w1 : ℕ)
+pub rule_put : (b b0 b1 b2 b3 : List ℕ) (at : ℕ) (r : Rule) (w1 : ℕ)
     → b3 ≡ puts b2 at 7 (bytes_of (four ∷ four ∷ []) (r.first ∷ r.last ∷ []))
     → b2 ≡ puts b1 at 5 (digits two r.criteria) → b1 ≡ puts b0 at 4 (digits one w1) → w1 ≡ r.sign
     → b0 ≡ puts b at 0 (bytes_of (one ∷ one ∷ one ∷ one ∷ []) (r.csd ∷ r.number ∷ r.object ∷ r.sequence ∷ []))
-    → at ≡ rule_start i → b3 ≡ put_rule b i r
-unfolding puts digits bytes_of put_rule
-rule_put b b0 b1 b2 b3 i at r w1 h3 h2 h1 e1 h0 e = rw (h3, h2, h1, h0, e1, e)
+    → b3 ≡ puts b at 0 (bytes_of rule_widths (rule_numbers r))
+unfolding puts digits bytes_of
+rule_put b b0 b1 b2 b3 at r w1 h3 h2 h1 e1 h0 = rw (h3, h2, h1, h0, e1)
 
 pub values_0_put : (b b0 b1 b2 : List ℕ) (x0 x1 x2 at : ℕ) → b2 ≡ puts b1 at 6 (digits one x2)
     → b1 ≡ puts b0 at 5 (digits one x1) → b0 ≡ puts b at 4 (digits one x0)
@@ -64,21 +64,21 @@ pub values_6_put : (b b0 b1 b2 b3 : List ℕ) (x6 x7 x8 x9 at : ℕ) → b3 ≡ 
 unfolding puts digits bytes_of
 values_6_put b b0 b1 b2 b3 x6 x7 x8 x9 at h3 h2 h1 h0 = rw (h3, h2, h1, h0)
 
-pub row_put : (b b0 b1 b2 b3 : List ℕ) (i at : ℕ) (r : Row)
+pub row_put : (b b0 b1 b2 b3 : List ℕ) (at : ℕ) (r : Row)
     → b3 ≡ puts b2 at 17 (bytes_of (two ∷ two ∷ two ∷ three ∷ []) ((get_or r.values 6 0) ∷ (get_or r.values 7 0) ∷ (get_or r.values 8 0) ∷ (get_or r.values 9 0) ∷ []))
     → b2 ≡ puts b1 at 7 (bytes_of (four ∷ three ∷ three ∷ []) ((get_or r.values 3 0) ∷ (get_or r.values 4 0) ∷ (get_or r.values 5 0) ∷ []))
     → b1 ≡ puts b0 at 4 (bytes_of (one ∷ one ∷ one ∷ []) ((get_or r.values 0 0) ∷ (get_or r.values 1 0) ∷ (get_or r.values 2 0) ∷ []))
     → b0 ≡ puts b at 0 (bytes_of (one ∷ one ∷ one ∷ one ∷ []) (r.csd ∷ r.number ∷ r.object ∷ r.sequence ∷ []))
-    → at ≡ row_start i → b3 ≡ put_row b i r
-unfolding puts digits bytes_of put_row
-row_put b b0 b1 b2 b3 i at r h3 h2 h1 h0 e = rw (h3, h2, h1, h0, e)
+    → b3 ≡ puts b at 0 (bytes_of row_widths (row_numbers r))
+unfolding puts digits bytes_of
+row_put b b0 b1 b2 b3 at r h3 h2 h1 h0 = rw (h3, h2, h1, h0)
 
-pub period_put : (b b0 b1 b2 b3 : List ℕ) (i at : ℕ) (r : Period)
+pub period_put : (b b0 b1 b2 b3 : List ℕ) (at : ℕ) (r : Period)
     → b3 ≡ puts b2 at 7 (bytes_of (four ∷ four ∷ []) (r.first ∷ r.last ∷ [])) → b2 ≡ puts b1 at 5 (digits two r.code)
     → b1 ≡ puts b0 at 2 (digits three r.number) → b0 ≡ puts b at 0 (bytes_of (one ∷ one ∷ []) (r.csd ∷ r.kind ∷ []))
-    → at ≡ period_start i → b3 ≡ put_period b i r
-unfolding puts digits bytes_of put_period
-period_put b b0 b1 b2 b3 i at r h3 h2 h1 h0 e = rw (h3, h2, h1, h0, e)
+    → b3 ≡ puts b at 0 (bytes_of period_widths (period_numbers r))
+unfolding puts digits bytes_of
+period_put b b0 b1 b2 b3 at r h3 h2 h1 h0 = rw (h3, h2, h1, h0)
 
 pub csd_put : (b b0 b1 b2 : List ℕ) (at x0 x1 x3 : ℕ) (w0 w2 : ℕ) → b2 ≡ puts b1 at 3 (digits one w2) → w2 ≡ x3
     → b1 ≡ puts b0 at 1 (digits two x1) → b0 ≡ puts b at 0 (digits one w0) → w0 ≡ x0
@@ -154,9 +154,9 @@ pub instruction_fields_put : (b b0 b1 b2 b3 b4 : List ℕ) (at x0 x1 x3 x4 x5 x6
 unfolding puts digits bytes_of
 instruction_fields_put b b0 b1 b2 b3 b4 at x0 x1 x3 x4 x5 x6 x7 x11 x14 x17 x20 x23 x27 h4 h3 h2 h1 h0 = rw (h4, h3, h2, h1, h0)
 
-pub instruction_put : (b b0 b1 : List ℕ) (i at : ℕ) (r : Kept)
+pub instruction_put : (b b0 b1 : List ℕ) (at : ℕ) (r : Kept)
     → b1 ≡ puts b0 at 31 (bytes_of (one ∷ one ∷ one ∷ one ∷ one ∷ one ∷ one ∷ one ∷ one ∷ one ∷ one ∷ one ∷ one ∷ []) ((get_or r.remembered 0 0) ∷ (get_or r.remembered 1 0) ∷ (get_or r.remembered 2 0) ∷ (get_or r.remembered 3 0) ∷ (get_or r.remembered 4 0) ∷ (get_or r.remembered 5 0) ∷ (get_or r.remembered 6 0) ∷ (get_or r.remembered 7 0) ∷ (get_or r.remembered 8 0) ∷ (get_or r.remembered 9 0) ∷ (get_or r.remembered 10 0) ∷ (get_or r.remembered 11 0) ∷ (get_or r.remembered 12 0) ∷ []))
     → b0 ≡ puts b at 0 (bytes_of (one ∷ two ∷ one ∷ one ∷ one ∷ one ∷ four ∷ three ∷ three ∷ three ∷ three ∷ four ∷ four ∷ []) (r.csd ∷ r.reference ∷ r.object ∷ r.role ∷ r.movement ∷ r.payment ∷ r.transaction ∷ r.currency ∷ r.party ∷ r.account ∷ r.security ∷ r.validating ∷ r.holding ∷ []))
-    → at ≡ instruction_start i → b1 ≡ put_instruction b i r
-unfolding puts digits bytes_of put_instruction
-instruction_put b b0 b1 i at r h1 h0 e = rw (h1, h0, e)
+    → b1 ≡ puts b at 0 (bytes_of instruction_widths (instruction_numbers r))
+unfolding puts digits bytes_of
+instruction_put b b0 b1 at r h1 h0 = rw (h1, h0)

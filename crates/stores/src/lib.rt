@@ -2,12 +2,34 @@
 // Written by tools/places.py: change that, then run tools/generate.
 #![tactic(auto)]
 
-ghost use Rattle.std.specs.Prelude.{◌≡◌, ◌+◌, set, get_or, [], ◌∷◌};
+ghost use Rattle.std.specs.Prelude.{◌≡◌, ℕ, ◌+◌, ◌*◌, set, get_or, List, [], ◌∷◌};
 ghost use Rattle.tables.specs.Bytes.{one, two, three, four, digits, bytes_of, puts};
-ghost use Rattle.places.specs.Layout.{put_type, put_rule, put_row, put_period, put_instruction};
+ghost use Rattle.places.specs.Layout.{type_numbers, put_type, rule_numbers, put_rule, row_numbers, put_row, period_numbers, put_period, instruction_numbers, put_instruction};
+ghost use Rattle.stores.specs.Stores.{type_stores, rule_stores, row_stores, period_stores, instruction_stores};
 
-use basics::{low, wide};
-use places::{Kept, Period, RestrictionType, Row, Rule, address};
+use basics::low;
+use places::{Kept, Period, Place, RestrictionType, Row, Rule, address};
+
+// A record that is stored as its numbers, one after the other.
+pub trait Store: Place {
+    // The numbers, and what a record stored at place i of a book leaves.
+    ghost shown: { Self → List ℕ };
+
+    ghost put: { List ℕ → ℕ → Self → List ℕ };
+
+    // Stores the numbers from an address on.
+    fn write(self, b: &mut [u8], start: u32)
+        ensures { b.new ≡ puts b.old start 0 (bytes_of Self.widths (shown self)) };
+
+    ghost stores: { (b : List ℕ) (i : ℕ) (r : Self) → put b i r ≡ puts b (Self.START + i * Self.WIDTH) 0 (bytes_of Self.widths (shown r)) };
+}
+
+// Stores a record at place i.
+pub fn put<P: Store>(b: &mut [u8], i: u16, r: P)
+    ensures { b.new ≡ P.put b.old i r }
+{
+    r.write(b, address::<P>(i));
+}
 
 // Writes a byte at an offset from a place, and nothing past the end.
 fn put_byte(b: &mut [u8], at: u32, j: u32, v: u8)
@@ -18,6 +40,8 @@ fn put_byte(b: &mut [u8], at: u32, j: u32, v: u8)
         b[i] = v;
     }
 }
+
+// A function for each width, as `digits` has a clause for each: one over a const parameter would be a loop, no plainer.
 
 fn put_one(b: &mut [u8], at: u32, j: u16, v: u32)
     ensures { b.new ≡ puts b.old at j (digits one v) }
@@ -52,21 +76,22 @@ fn put_four(b: &mut [u8], at: u32, j: u16, v: u32)
     put_byte(b, at, k + 3, low(v / 256 / 256 / 256));
 }
 
-// The first four bytes of a place, and the first two.
+// From here on numbers are stored in groups, as many as one proof takes at once: the first four bytes of a place, and
+// the first two.
 fn put_head(b: &mut [u8], at: u32, x: u8, y: u8, z: u8, u: u8)
     ensures { b.new ≡ puts b.old at 0 (bytes_of (one ∷ one ∷ one ∷ one ∷ []) (x ∷ y ∷ z ∷ u ∷ [])) }
 {
-    put_one(b, at, 0, wide(x));
-    put_one(b, at, 1, wide(y));
-    put_one(b, at, 2, wide(z));
-    put_one(b, at, 3, wide(u));
+    put_one(b, at, 0, u32::from(x));
+    put_one(b, at, 1, u32::from(y));
+    put_one(b, at, 2, u32::from(z));
+    put_one(b, at, 3, u32::from(u));
 }
 
 fn put_pair(b: &mut [u8], at: u32, x: u8, y: u8)
     ensures { b.new ≡ puts b.old at 0 (bytes_of (one ∷ one ∷ []) (x ∷ y ∷ [])) }
 {
-    put_one(b, at, 0, wide(x));
-    put_one(b, at, 1, wide(y));
+    put_one(b, at, 0, u32::from(x));
+    put_one(b, at, 1, u32::from(y));
 }
 
 // A first and a last day.
@@ -78,22 +103,39 @@ fn put_days(b: &mut [u8], at: u32, j: u8, first: u32, last: u32)
     put_four(b, at, k + 4, last);
 }
 
-pub fn put_type(b: &mut [u8], i: u16, r: RestrictionType)
-    ensures { b.new ≡ put_type b.old i r }
-{
-    let at = address(RestrictionType::START, RestrictionType::WIDTH, i);
-    put_head(b, at, r.csd, r.number, r.object, r.processing);
-    put_days(b, at, 4, r.first, r.last);
+impl Store for RestrictionType {
+    ghost shown = { type_numbers };
+
+    ghost put = { put_type };
+
+    ghost stores = { type_stores };
+
+    fn write(self, b: &mut [u8], start: u32) {
+        put_head(
+            b,
+            start,
+            self.csd,
+            self.number,
+            self.object,
+            self.processing,
+        );
+        put_days(b, start, 4, self.first, self.last);
+    }
 }
 
-pub fn put_rule(b: &mut [u8], i: u16, r: Rule)
-    ensures { b.new ≡ put_rule b.old i r }
-{
-    let at = address(Rule::START, Rule::WIDTH, i);
-    put_head(b, at, r.csd, r.number, r.object, r.sequence);
-    put_one(b, at, 4, wide(r.sign));
-    put_two(b, at, 5, r.criteria);
-    put_days(b, at, 7, r.first, r.last);
+impl Store for Rule {
+    ghost shown = { rule_numbers };
+
+    ghost put = { put_rule };
+
+    ghost stores = { rule_stores };
+
+    fn write(self, b: &mut [u8], start: u32) {
+        put_head(b, start, self.csd, self.number, self.object, self.sequence);
+        put_one(b, start, 4, u32::from(self.sign));
+        put_two(b, start, 5, self.criteria);
+        put_days(b, start, 7, self.first, self.last);
+    }
 }
 
 // Values 0 to 2 of a row.
@@ -124,34 +166,43 @@ fn put_values_6(b: &mut [u8], at: u32, v: [u32; 10])
     put_three(b, at, 23, v[9]);
 }
 
-pub fn put_row(b: &mut [u8], i: u16, r: Row)
-    ensures { b.new ≡ put_row b.old i r }
-{
-    let at = address(Row::START, Row::WIDTH, i);
-    let values = r.values;
-    put_head(b, at, r.csd, r.number, r.object, r.sequence);
-    put_values_0(b, at, values);
-    put_values_3(b, at, values);
-    put_values_6(b, at, values);
+impl Store for Row {
+    ghost shown = { row_numbers };
+
+    ghost put = { put_row };
+
+    ghost stores = { row_stores };
+
+    fn write(self, b: &mut [u8], start: u32) {
+        put_head(b, start, self.csd, self.number, self.object, self.sequence);
+        put_values_0(b, start, self.values);
+        put_values_3(b, start, self.values);
+        put_values_6(b, start, self.values);
+    }
 }
 
-pub fn put_period(b: &mut [u8], i: u16, r: Period)
-    ensures { b.new ≡ put_period b.old i r }
-{
-    let at = address(Period::START, Period::WIDTH, i);
-    put_pair(b, at, r.csd, r.kind);
-    put_three(b, at, 2, r.number);
-    put_two(b, at, 5, r.code);
-    put_days(b, at, 7, r.first, r.last);
+impl Store for Period {
+    ghost shown = { period_numbers };
+
+    ghost put = { put_period };
+
+    ghost stores = { period_stores };
+
+    fn write(self, b: &mut [u8], start: u32) {
+        put_pair(b, start, self.csd, self.kind);
+        put_three(b, start, 2, self.number);
+        put_two(b, start, 5, self.code);
+        put_days(b, start, 7, self.first, self.last);
+    }
 }
 
 // Csd, reference, object.
 fn put_csd(b: &mut [u8], at: u32, r: Kept)
     ensures { b.new ≡ puts b.old at 0 (bytes_of (one ∷ two ∷ one ∷ []) (r.csd ∷ r.reference ∷ r.object ∷ [])) }
 {
-    put_one(b, at, 0, wide(r.csd));
+    put_one(b, at, 0, u32::from(r.csd));
     put_two(b, at, 1, r.reference);
-    put_one(b, at, 3, wide(r.object));
+    put_one(b, at, 3, u32::from(r.object));
 }
 
 // Role, movement, payment.
@@ -193,10 +244,10 @@ fn put_remembered_0(b: &mut [u8], at: u32, r: Kept)
     ensures { b.new ≡ puts b.old at 31 (bytes_of (one ∷ one ∷ one ∷ one ∷ []) ((get_or r.remembered 0 0) ∷ (get_or r.remembered 1 0) ∷ (get_or r.remembered 2 0) ∷ (get_or r.remembered 3 0) ∷ [])) }
 {
     let v = r.remembered;
-    put_one(b, at, 31, wide(v[0]));
-    put_one(b, at, 32, wide(v[1]));
-    put_one(b, at, 33, wide(v[2]));
-    put_one(b, at, 34, wide(v[3]));
+    put_one(b, at, 31, u32::from(v[0]));
+    put_one(b, at, 32, u32::from(v[1]));
+    put_one(b, at, 33, u32::from(v[2]));
+    put_one(b, at, 34, u32::from(v[3]));
 }
 
 // Bytes 4 to 7 of remembered.
@@ -204,10 +255,10 @@ fn put_remembered_4(b: &mut [u8], at: u32, r: Kept)
     ensures { b.new ≡ puts b.old at 35 (bytes_of (one ∷ one ∷ one ∷ one ∷ []) ((get_or r.remembered 4 0) ∷ (get_or r.remembered 5 0) ∷ (get_or r.remembered 6 0) ∷ (get_or r.remembered 7 0) ∷ [])) }
 {
     let v = r.remembered;
-    put_one(b, at, 35, wide(v[4]));
-    put_one(b, at, 36, wide(v[5]));
-    put_one(b, at, 37, wide(v[6]));
-    put_one(b, at, 38, wide(v[7]));
+    put_one(b, at, 35, u32::from(v[4]));
+    put_one(b, at, 36, u32::from(v[5]));
+    put_one(b, at, 37, u32::from(v[6]));
+    put_one(b, at, 38, u32::from(v[7]));
 }
 
 // Bytes 8 to 11 of remembered.
@@ -215,10 +266,10 @@ fn put_remembered_8(b: &mut [u8], at: u32, r: Kept)
     ensures { b.new ≡ puts b.old at 39 (bytes_of (one ∷ one ∷ one ∷ one ∷ []) ((get_or r.remembered 8 0) ∷ (get_or r.remembered 9 0) ∷ (get_or r.remembered 10 0) ∷ (get_or r.remembered 11 0) ∷ [])) }
 {
     let v = r.remembered;
-    put_one(b, at, 39, wide(v[8]));
-    put_one(b, at, 40, wide(v[9]));
-    put_one(b, at, 41, wide(v[10]));
-    put_one(b, at, 42, wide(v[11]));
+    put_one(b, at, 39, u32::from(v[8]));
+    put_one(b, at, 40, u32::from(v[9]));
+    put_one(b, at, 41, u32::from(v[10]));
+    put_one(b, at, 42, u32::from(v[11]));
 }
 
 // Bytes 12 to 12 of remembered.
@@ -226,7 +277,7 @@ fn put_remembered_12(b: &mut [u8], at: u32, r: Kept)
     ensures { b.new ≡ puts b.old at 43 (bytes_of (one ∷ []) ((get_or r.remembered 12 0) ∷ [])) }
 {
     let v = r.remembered;
-    put_one(b, at, 43, wide(v[12]));
+    put_one(b, at, 43, u32::from(v[12]));
 }
 
 // The 13 bytes of remembered.
@@ -250,10 +301,15 @@ fn put_instruction_fields(b: &mut [u8], at: u32, r: Kept)
     put_holding(b, at, r);
 }
 
-pub fn put_instruction(b: &mut [u8], i: u16, r: Kept)
-    ensures { b.new ≡ put_instruction b.old i r }
-{
-    let at = address(Kept::START, Kept::WIDTH, i);
-    put_instruction_fields(b, at, r);
-    put_remembered(b, at, r);
+impl Store for Kept {
+    ghost shown = { instruction_numbers };
+
+    ghost put = { put_instruction };
+
+    ghost stores = { instruction_stores };
+
+    fn write(self, b: &mut [u8], start: u32) {
+        put_instruction_fields(b, start, self);
+        put_remembered(b, start, self);
+    }
 }

@@ -4,7 +4,7 @@ use Prim.Native.Nat.{ℕ, zero, suc, ◌+◌, ◌≤◌, ◌<◌, min}
 use mathlib.Core.Path.{◌≡◌, refl, ap, sym, ◌∙◌}
 use mathlib.Core.Bool.{Bool, true, false, ◌&&◌, ◌||◌, not, cond, or-true, false≢true}
 use mathlib.Core.List.{List, [], ◌∷◌}
-use mathlib.Core.Option.{Option, some, none}
+use Rattle.std.specs.Prelude.{Option, Some, None}
 use native.Mathlib.Omega.{arith}
 use lib.Dec.{ltb, leb}
 use lib.ListN.{length}
@@ -229,13 +229,13 @@ module _ {R : Type 0} where
 
   -- whether one is left that passes
   abbrev pub left_by : (R → Bool) → Option R → Bool
-  left_by p none = false
-  left_by p (some x) = p x
+  left_by p None = false
+  left_by p (Some x) = p x
 
   count_left : (p : R → Bool) (o : Option R) (l : List R) → count p (or_none o l) ≡ count p l + bit (left_by p o)
   unfolding count
-  count_left p none l = omega arith
-  count_left p (some x) l = refl
+  count_left p None l = omega arith
+  count_left p (Some x) l = refl
 
   pub count_sift : (p : R → Bool) (g : R → Option R) (l : List R) → count p (sift g l) ≡ count (λ x. left_by p (g x)) l
   unfolding count sift
@@ -244,23 +244,23 @@ module _ {R : Type 0} where
 
   -- one that is left and passes
   pub left_some : {G : Type 0} (p : R → Bool) (o : Option R) → left_by p o ≡ true
-      → ((x : R) → o ≡ some x → p x ≡ true → G) → G
-  left_some p none e k = absurd (false≢true e)
-  left_some p (some x) e k = k x refl e
+      → ((x : R) → o ≡ Some x → p x ≡ true → G) → G
+  left_some p None e k = absurd (false≢true e)
+  left_some p (Some x) e k = k x refl e
 
   -- whether what is left, if anything, passes
   abbrev pub every_left : (R → Bool) → Option R → Bool
-  every_left p none = true
-  every_left p (some x) = p x
+  every_left p None = true
+  every_left p (Some x) = p x
 
-  pub every_left_lem : (p : R → Bool) (o : Option R) → ((x : R) → o ≡ some x → p x ≡ true) → every_left p o ≡ true
-  every_left_lem p none h = refl
-  every_left_lem p (some x) h = h x refl
+  pub every_left_lem : (p : R → Bool) (o : Option R) → ((x : R) → o ≡ Some x → p x ≡ true) → every_left p o ≡ true
+  every_left_lem p None h = refl
+  every_left_lem p (Some x) h = h x refl
 
   every_one : (p : R → Bool) (o : Option R) (l : List R) → every p (or_none o l) ≡ (every_left p o && every p l)
   unfolding every
-  every_one p none l = refl
-  every_one p (some x) l = refl
+  every_one p None l = refl
+  every_one p (Some x) l = refl
 
   pub every_sift : (p : R → Bool) (g : R → Option R) (l : List R)
       → every p (sift g l) ≡ every (λ x. every_left p (g x)) l
@@ -269,8 +269,8 @@ module _ {R : Type 0} where
   every_sift p g (x ∷ l) = every_one p (g x) (sift g l) ∙ rw (every_sift p g l)
 
   length_one : (o : Option R) (l : List R) → length (or_none o l) ≤ suc (length l)
-  length_one none l = omega arith
-  length_one (some x) l = omega arith
+  length_one None l = omega arith
+  length_one (Some x) l = omega arith
 
   pub length_sift : (g : R → Option R) (l : List R) → length (sift g l) ≤ length l
   unfolding sift

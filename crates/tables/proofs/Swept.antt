@@ -3,7 +3,7 @@ use Prim.Native.Nat.{ℕ, zero, suc, ◌≤◌, ◌<◌}
 use mathlib.Core.Path.{◌≡◌, refl, ap, sym, ◌∙◌}
 use mathlib.Core.Bool.{true, false, cond}
 use mathlib.Core.List.{List, ◌∷◌}
-use mathlib.Core.Option.{Option, some, none}
+use Rattle.std.specs.Prelude.{Option, Some, None}
 use native.Mathlib.Omega.{arith}
 use lib.Dec.{eqb}
 use lib.ListN.{length}
@@ -17,7 +17,7 @@ use Rattle.tables.proofs.Stored.{length_stored, back, other, apart}
 
 -- what stands at a place, if it is depository a's
 abbrev pub of_owner : {P R : Type 0} → (P → ℕ) → (P → R) → ℕ → P → Option R
-of_owner csd rec a x = cond (eqb (csd x) a) (some (rec x)) none
+of_owner csd rec a x = cond (eqb (csd x) a) (Some (rec x)) None
 
 of_owner_lem : {P R : Type 0} (csd : P → ℕ) (rec : P → R) (a : ℕ) (x : P) (l : List R)
     → cond (eqb (csd x) a) (rec x ∷ l) l ≡ or_none (of_owner csd rec a x) l

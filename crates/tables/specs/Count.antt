@@ -1,8 +1,7 @@
 -- Counts and folds over a list of records and over the places of a table. A count knows no order: what the meaning asks
 -- of a book is asked by counts, or by a fold that depends on counts alone. Assumes nothing.
-use Rattle.std.specs.Prelude.{ℕ, zero, suc, ◌+◌, min, ◌≡◌, Bool, true, false, ◌&&◌, List, [], ◌∷◌, eqb}
+use Rattle.std.specs.Prelude.{ℕ, zero, suc, ◌+◌, min, ◌≡◌, Bool, true, false, ◌&&◌, List, [], ◌∷◌, eqb, Option, Some, None}
 use Rattle.std.proofs.Math.Bool.{not, cond}
-use Rattle.std.proofs.Math.Option.{Option, some, none}
 use Rattle.std.proofs.Math.Dec.{ltb}
 
 abbrev pub bit : Bool → ℕ
@@ -19,8 +18,8 @@ lesser (suc m) (suc n) = suc (min m n)
 
 -- the list with one more, if there is one
 abbrev pub or_none : {R : Type 0} → Option R → List R → List R
-or_none none l = l
-or_none (some x) l = x ∷ l
+or_none None l = l
+or_none (Some x) l = x ∷ l
 
 module _ {R : Type 0} where
   -- how many of the list pass the test

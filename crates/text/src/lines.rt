@@ -3,7 +3,8 @@ ghost use Rattle.text.specs.Parts.{Splits};
 
 use fields::find;
 
-// The line that begins at an index: where it ends, and where the next one begins.
+// The line that begins at an index: where it ends, and where the next one begins. Indices, and no iterator over lines:
+// who answers lines says by an index how far it came in the text.
 #[derive(Clone, Copy)]
 pub struct Span {
     pub end: usize,
@@ -15,8 +16,6 @@ pub fn next_line(text: &[u8], at: usize) -> Span
     ensures { Splits text.now at result }
 {
     let end = find(text, at, b'\n');
-    if end < text.len() {
-        return Span { end, next: end + 1 };
-    }
-    Span { end, next: end }
+    let next = if end < text.len() { end + 1 } else { end };
+    Span { end, next }
 }

@@ -1,62 +1,48 @@
 -- Fields written one after the other are the line that the meaning writes.
-use Prim.Native.Nat.{ℕ, zero, suc, ◌+◌, ◌≤◌, ◌<◌, min}
+use Prim.Native.Nat.{ℕ}
 use mathlib.Core.Path.{◌≡◌, refl, ap, ◌∙◌}
-use mathlib.Core.List.{List, [], ◌∷◌}
-use native.Mathlib.Numerals.{add-one}
 use native.Mathlib.Omega.{arith}
-use lib.ListN.{length, get_or, drop}
-use lib.Seq.{drop-cons}
-use Rattle.meaning.specs.Forms.{Form, csd_form, letter_byte}
+use mathlib.Core.Logic.{◌⊎◌, inl, inr}
+use lib.ListN.{length}
+use mathlib.Core.List.{List, [], ◌∷◌, map}
+use Rattle.meaning.specs.Forms.{letter_byte}
 use Rattle.meaning.specs.Writing.{write, write_all, written}
-use Rattle.shapes.specs.Table.{form_at, shape_at, forms_at}
+use Rattle.shapes.specs.declared.Shape.{Shape as RowName}
+use Rattle.shapes.specs.declared.Field.{Field}
+use Rattle.shapes.specs.Table.{field_of, row_of, forms_of}
 use Rattle.shapes.proofs.TableRule.{letter_text_lem}
-use Rattle.writing.specs.Written.{nothing, added, added_all, written_as}
-use Rattle.writing.specs.declared.bytes.Written.{Written}
-use Rattle.writing.proofs.Texts.{then}
+use Rattle.writing.specs.Written.{added, added_all, written_as}
+use Rattle.writing.proofs.Texts.{then, all_taken}
 
 -- ---- the fields
 
--- before field k: what is written, with the fields that are left, gives the whole
-pub record FieldsTo (w : Written) (φs : List Form) (ns : List ℕ) (v : Written) (k : ℕ) : Type 0 where
-  pub left : added_all v (write_all (drop k φs) (drop k ns)) ≡ added_all w (write_all φs ns)
+-- what is written, with the fields and numbers that are left, gives the whole
+pub record FieldsTo (w : List ℕ) (fs : List Field) (ns : List ℕ) (v : List ℕ) (gs : List Field) (ms : List ℕ) : Type 0 where
+  pub left : added_all v (write_all (map field_of gs) ms) ≡ added_all w (write_all (map field_of fs) ns)
 
-no_numbers : (φs : List Form) → write_all φs [] ≡ []
+pub fields_next : {w v u : List ℕ} {fs gs hs : List Field} {ns ms ks : List ℕ} (f : Field) (n : ℕ) → FieldsTo w fs ns v gs ms
+    → gs ≡ f ∷ hs → ms ≡ n ∷ ks → u ≡ added_all v (44 ∷ write (field_of f) n) → FieldsTo w fs ns u hs ks
 unfolding write_all
-no_numbers [] = refl
-no_numbers (φ ∷ φs) = refl
+fields_next f n r a b e = record { left = rw (e, then) (rw (a, b) at r.left) }
 
-no_fields : (φs : List Form) (ns : List ℕ) (k : ℕ) → min (length φs) (length ns) ≤ k → write_all (drop k φs) (drop k ns) ≡ []
+nothing_left : (gs : List Field) (ms : List ℕ) → (length gs ≡ 0) ⊎ (length ms ≡ 0) → write_all (map field_of gs) ms ≡ []
 unfolding write_all
-no_fields [] ns zero h = refl
-no_fields (φ ∷ φs) [] zero h = refl
-no_fields (φ ∷ φs) (n ∷ ns) zero h = absurd (omega arith)
-no_fields [] ns (suc k) h = refl
-no_fields (φ ∷ φs) [] (suc k) h = no_numbers (drop k φs)
-no_fields (φ ∷ φs) (n ∷ ns) (suc k) h = no_fields φs ns k (omega arith)
+nothing_left [] ms e = refl
+nothing_left (g ∷ gs) [] e = refl
+nothing_left (g ∷ gs) (m ∷ ms) (inl e) = absurd (omega arith)
+nothing_left (g ∷ gs) (m ∷ ms) (inr e) = absurd (omega arith)
 
-module _ {w v : Written} {φs : List Form} {ns : List ℕ} {k n : ℕ} (e : n ≡ min (length φs) (length ns)) (r : FieldsTo w φs ns v k) where
-  pub fields_next : {u : Written} (form : ℕ) → u ≡ added_all v (44 ∷ write (form_at form) (get_or ns k 0)) → form_at form ≡ get_or φs k csd_form → k < n
-      → FieldsTo w φs ns u (k + 1)
-  unfolding write_all
-  fields_next {u} form a b h =
-      let p : k < length φs = omega arith in
-      let q : k < length ns = omega arith in
-      record {
-        left =
-            rw (a, b, then, add-one k) (rw (drop-cons φs k csd_form p, drop-cons ns k 0 q) at r.left);
-      }
-
-  pub fields_end : n ≤ k → v ≡ added_all w (write_all φs ns)
-  unfolding added_all
-  fields_end h = rw (no_fields φs ns k (omega arith)) at r.left
-
-pub fields_start : (w : Written) (φs : List Form) (ns : List ℕ) → FieldsTo w φs ns w 0
-fields_start w φs ns = record { left = refl }
+-- no fields or no numbers are left
+pub fields_end : {w v : List ℕ} {fs gs : List Field} {ns ms : List ℕ} → FieldsTo w fs ns v gs ms → (length gs ≡ 0) ⊎ (length ms ≡ 0)
+    → v ≡ added_all w (write_all (map field_of fs) ns)
+unfolding added_all
+fields_end {gs = gs} {ms = ms} r e = rw (nothing_left gs ms e) at r.left
 
 -- ---- the line
 
-pub line_written : (p : ℕ) (ns : List ℕ) {c : ℕ} {b w r : Written} → r ≡ added_all w (write_all (forms_at p) ns) → w ≡ added b c
-    → c ≡ letter_byte (shape_at p).letter → b ≡ nothing → r ≡ written_as (written (shape_at p) ns)
-unfolding written_as added_all written forms_at
-line_written p ns {c} f e d a =
-    rw (letter_text_lem p, ← d) (f ∙ ap (λ x. added_all x (write_all (forms_at p) ns)) (e ∙ ap (λ x. added x c) a))
+pub line_written : (p : RowName) (fs : List Field) (ns : List ℕ) {c : ℕ} {b r : List ℕ} (w : List ℕ) → r ≡ added_all w (write_all (map field_of fs) ns)
+    → map field_of fs ≡ forms_of p → w ≡ added b c → c ≡ letter_byte (row_of p).letter → b ≡ [] → r ≡ written_as (written (row_of p) ns)
+unfolding added_all written forms_of
+line_written p fs ns {c} w f g e d a =
+    let t = write_all (row_of p).forms ns in
+    rw (letter_text_lem p, ← d) (f ∙ ap (λ x. added_all w (write_all x ns)) g ∙ ap (λ x. added_all x t) (e ∙ ap (λ x. added x c) a) ∙ all_taken (c ∷ t) [] (omega arith))

@@ -15,8 +15,9 @@ use Rattle.meaning.specs.Forms.{Form, up_to, code, day, letters, one_of, optiona
 use Rattle.meaning.specs.Writing.{write, write_all, written}
 use Rattle.meaning.proofs.Numerals.{numeral_one, numeral_more}
 use Rattle.meaning.proofs.Shapes.{Each}
-use Rattle.shapes.specs.Table.{shape_at}
-use Rattle.shapes.proofs.TableRule.{every_at, letter_text_lem}
+use Rattle.shapes.specs.declared.Shape.{Shape as RowName}
+use Rattle.shapes.specs.Table.{row_of}
+use Rattle.shapes.proofs.TableRule.{each_row, letter_text_lem}
 use Rattle.tables.specs.Count.{every}
 use Rattle.writing.specs.Written.{space}
 
@@ -123,11 +124,11 @@ unfolding shape_q fitting total widest longest numeral
 last_fits = refl
 
 -- The line of any row and numbers in the ranges of its forms fits.
-pub right_fits : (p : ℕ) (ns : List ℕ) → holds_all (shape_at p).forms ns ≡ true → length (written (shape_at p) ns) ≤ space
+pub right_fits : (p : RowName) (ns : List ℕ) → holds_all (row_of p).forms ns ≡ true → length (written (row_of p) ns) ≤ space
 unfolding written fitting
 right_fits p ns e =
-    let f = leb-true (1 + total (shape_at p).forms) space (every_at fitting shapes p shape_q all_fit last_fits) in
-    rw (letter_text_lem p) (omega (arith, f, fields_short (shape_at p).forms ns e))
+    let f = leb-true (1 + total (row_of p).forms) space (each_row fitting all_fit last_fits p) in
+    rw (letter_text_lem p) (omega (arith, f, fields_short (row_of p).forms ns e))
 
 fields_long : (φs : List Form) (ns : List ℕ) → holds_all φs ns ≡ true → length φs ≤ length (write_all φs ns)
 unfolding holds_all write_all
@@ -138,6 +139,6 @@ fields_long (φ ∷ φs) (n ∷ ns) e =
     omega (arith, length-append (write φ n) (write_all φs ns), fields_long φs ns b.1)
 
 -- It has its letter and a comma for each field.
-pub right_long : (p : ℕ) (ns : List ℕ) → holds_all (shape_at p).forms ns ≡ true → length (shape_at p).forms < length (written (shape_at p) ns)
+pub right_long : (p : RowName) (ns : List ℕ) → holds_all (row_of p).forms ns ≡ true → length (row_of p).forms < length (written (row_of p) ns)
 unfolding written
-right_long p ns e = rw (letter_text_lem p) (omega (arith, fields_long (shape_at p).forms ns e))
+right_long p ns e = rw (letter_text_lem p) (omega (arith, fields_long (row_of p).forms ns e))

@@ -1,91 +1,86 @@
 // Bytes, texts and numbers.
-ghost use Rattle.std.specs.Prelude.{◌+◌, ◌<◌, ◌≡◌};
+ghost use Rattle.std.specs.Prelude.{◌+◌, ◌<◌, ◌≤◌, ◌≡◌, List, ℕ, [], length};
 ghost use Rattle.meaning.specs.Text.{numeral};
 ghost use Rattle.meaning.specs.Printing.{listed};
-ghost use Rattle.writing.specs.Written.{nothing, added, added_all};
+ghost use Rattle.writing.specs.Written.{space, added, added_all};
+
+use arrayvec::ArrayVec;
+use std::marker::Model;
 
 // The longest line has 80 bytes.
 pub const SPACE: usize = 80;
 
-// What is written: its bytes, zeros after them, and how many they are.
-#[derive(Clone, Copy)]
+// What is written: bytes in a fixed space. What does not fit is left out.
+#[derive(Drop)]
 pub struct Written {
-    pub bytes: [u8; SPACE],
-    pub len: usize,
+    bytes: ArrayVec<u8, SPACE>,
 }
 
-pub fn blank() -> Written
-    ensures { result ≡ nothing }
-{
-    Written {
-        bytes: [0u8; SPACE],
-        len: 0,
-    }
-}
+// A clause sees the bytes.
+impl Model for Written {
+    ghost Value = { List ℕ };
 
-// One byte more, where there is room.
-pub fn add(w: Written, c: u8) -> Written
-    ensures { result ≡ added w c }
-{
-    let n = w.len;
-    if n >= SPACE {
-        return w;
-    }
-    let mut bytes = w.bytes;
-    bytes[n] = c;
-    Written { bytes, len: n + 1 }
-}
-
-// The bytes of a text more.
-pub fn add_text(w: Written, text: &[u8]) -> Written
-    ensures { result ≡ added_all w text.now }
-{
-    let mut v = w;
-    let mut i = 0;
-    while i < text.len() {
-        v = add(v, text[i]);
-        i += 1;
-    }
-    v
+    ghost view = { λ w. w.bytes.items };
 }
 
 fn digit(n: u32) -> u8
     requires { n < 10 }
     ensures { result ≡ 48 + n }
 {
-    48 + n as u8
+    b'0' + n as u8
 }
 
-// The digits of a number more, without leading zeros: those of its tenth, and the last one.
-fn add_digits(w: Written, n: u32) -> Written
-    ensures { result ≡ added_all w (numeral n) }
-{
-    if n < 10 {
-        return add(w, digit(n));
+impl Written {
+    pub fn new() -> Self
+        ensures { result ≡ [] }
+    {
+        Written {
+            bytes: ArrayVec::new(),
+        }
     }
-    let v = add_digits(w, n / 10);
-    add(v, digit(n % 10))
-}
 
-// The digits of a number more. Most of an answer's numbers have one digit, which needs no call.
-pub fn add_number(w: Written, n: u32) -> Written
-    ensures { result ≡ added_all w (numeral n) }
-{
-    if n < 10 {
-        return add(w, digit(n));
+    pub fn as_slice(&self) -> &[u8]
+        ensures bytes { result.now ≡ self.now }
+        ensures few { length result.now ≤ space }
+    {
+        self.bytes.as_slice()
     }
-    add_digits(w, n)
-}
 
-// Numbers more, each behind a comma.
-pub fn add_numbers(w: Written, numbers: &[u32]) -> Written
-    ensures { result ≡ added_all w (listed numbers.now) }
-{
-    let mut v = w;
-    let mut i = 0;
-    while i < numbers.len() {
-        v = add_number(add(v, b','), numbers[i]);
-        i += 1;
+    // One byte more, where there is room.
+    pub fn push(&mut self, c: u8)
+        ensures { self.new ≡ added self.old c }
+    {
+        if !self.bytes.is_full() {
+            self.bytes.push(c);
+        }
     }
-    v
+
+    // The bytes of a text more.
+    pub(crate) fn push_text(&mut self, text: &[u8])
+        ensures { self.new ≡ added_all self.old text.now }
+    {
+        for &c in text {
+            self.push(c);
+        }
+    }
+
+    // The digits of a number more, without leading zeros: those of its tenth, and the last one.
+    pub fn push_number(&mut self, n: u32)
+        ensures { self.new ≡ added_all self.old (numeral n) }
+    {
+        if n >= 10 {
+            self.push_number(n / 10);
+        }
+        self.push(digit(n % 10));
+    }
+
+    // Numbers more, each behind a comma.
+    pub fn push_numbers(&mut self, numbers: &[u32])
+        ensures { self.new ≡ added_all self.old (listed numbers.now) }
+    {
+        for &n in numbers {
+            self.push(b',');
+            self.push_number(n);
+        }
+    }
 }

@@ -1,70 +1,60 @@
 // A field by its form: what the meaning's `write` says, for any number.
-ghost use Rattle.std.specs.Prelude.{◌-◌, ◌≡◌, [], ◌∷◌, get_or};
-ghost use Rattle.meaning.specs.Text.{spelled};
+ghost use Rattle.std.specs.Prelude.{◌-◌, ◌≡◌, [], ◌∷◌, get_or, map};
 ghost use Rattle.meaning.specs.Writing.{write};
-ghost use Rattle.shapes.specs.Table.{plain_form, form_at};
+ghost use Rattle.shapes.specs.Table.{plain_form, field_of};
 ghost use Rattle.writing.specs.Written.{added_all};
 
-use crate::bytes::{Written, add, add_number, add_text};
-use basics::low;
-use shapes::{CO, DY, KI, MO, OPTIONAL, PA, SG, TR, WI};
+use crate::bytes::Written;
+use shapes::{Field, Form};
 
-// One of three words by its place, from 1 on: the first for 0 too, and none past the third.
-fn add_word(w: Written, n: u32, a: &[u8], b: &[u8], c: &[u8]) -> Written
-    ensures { result ≡ added_all w (get_or (a.now ∷ b.now ∷ c.now ∷ []) (n - 1) []) }
-{
-    match n {
-        0 => add_text(w, a),
-        1 => add_text(w, a),
-        2 => add_text(w, b),
-        3 => add_text(w, c),
-        _ => w,
+impl Written {
+    // One of a few words by its place, from 1 on: the first for 0 too, and none past the last.
+    fn push_word(&mut self, n: u32, words: &[&[u8]])
+        ensures { self.new ≡ added_all self.old (get_or (map (λ w. w.now) words.now) (n - 1) []) }
+    {
+        let i = n.saturating_sub(1) as usize;
+        if let Some(word) = words.get(i) {
+            self.push_text(word);
+        }
     }
-}
 
-// The three letters of a number: its lowest bytes, the last letter the lowest.
-fn add_three(w: Written, n: u32) -> Written
-    ensures { result ≡ added_all w (spelled 3 n) }
-{
-    add(add(add(w, low(n / 256 / 256)), low(n / 256)), low(n))
-}
+    // A field that is not empty. The letters of a number are its lowest bytes, the last letter the lowest.
+    fn push_plain(&mut self, form: Form, n: u32)
+        ensures { self.new ≡ added_all self.old (write (plain_form form) n) }
+    {
+        match form {
+            Form::Csd
+            | Form::TypeNumber
+            | Form::Object
+            | Form::Processing
+            | Form::Sequence
+            | Form::Criteria
+            | Form::Number
+            | Form::PartyType
+            | Form::Day
+            | Form::Code => self.push_number(n),
+            Form::Sign => self.push_word(n, &[b"P", b"N"]),
+            Form::Kind => self.push_word(n, &[b"P", b"A", b"S"]),
+            Form::Movement => self.push_word(n, &[b"DELI", b"RECE"]),
+            Form::Payment => self.push_word(n, &[b"APMT", b"FREE"]),
+            Form::Transaction => self.push_text(&n.to_be_bytes()),
+            Form::Wish => self.push_word(n, &[b"Y", b"N"]),
+            Form::Currency => self.push_text(&n.to_be_bytes()[1..]),
+        }
+    }
 
-// The four letters of a number.
-fn add_four(w: Written, n: u32) -> Written
-    ensures { result ≡ added_all w (spelled 4 n) }
-{
-    add_three(add(w, low(n / 256 / 256 / 256)), n)
-}
-
-// A field that is not empty, by the number of its form. The forms up to that of a day are numbers.
-fn add_plain(w: Written, form: u8, n: u32) -> Written
-    ensures { result ≡ added_all w (write (plain_form form) n) }
-{
-    if form <= DY {
-        return add_number(w, n);
+    // A comma and the field that gives the number; a field that may be empty is empty for 0.
+    pub fn push_field(&mut self, field: Field, n: u32)
+        ensures { self.new ≡ added_all self.old (44 ∷ write (field_of field) n) }
+    {
+        self.push(b',');
+        match field {
+            Field::Filled(form) => self.push_plain(form, n),
+            Field::Optional(form) => {
+                if n != 0 {
+                    self.push_plain(form, n);
+                }
+            }
+        }
     }
-    match form {
-        SG => add_word(w, n, b"P", b"N", b""),
-        KI => add_word(w, n, b"P", b"A", b"S"),
-        CO => add_number(w, n),
-        MO => add_word(w, n, b"DELI", b"RECE", b""),
-        PA => add_word(w, n, b"APMT", b"FREE", b""),
-        TR => add_four(w, n),
-        WI => add_word(w, n, b"Y", b"N", b""),
-        _ => add_three(w, n),
-    }
-}
-
-// A comma and the field of a form that gives the number; a field that may be empty is empty for 0.
-pub fn add_field(w: Written, form: u8, n: u32) -> Written
-    ensures { result ≡ added_all w (44 ∷ write (form_at form) n) }
-{
-    let v = add(w, b',');
-    if form < OPTIONAL {
-        return add_plain(v, form, n);
-    }
-    if n == 0 {
-        return v;
-    }
-    add_plain(v, form - OPTIONAL, n)
 }

@@ -1,14 +1,14 @@
 -- `answering::take` meets its contract. Assumes nothing.
-use Rattle.answering.proofs.Commands.{took_refusal, took_question, took_edit, question_of_lem}
+use Rattle.answering.proofs.Commands.{none_given, took_refusal, took_question, took_edit, question_of_lem}
 use Rattle.commands.proofs.Narrow.{not_asked}
 use Rattle.answering.proofs.take.Goals as goal
 
-pub returns-then-n-ne0 : goal.returns-then-n-ne0
-returns-then-n-ne0 c = search (took_refusal, c.if-n-ne0.true)
+pub returns-in-Some : goal.returns-in-Some
+returns-in-Some c = search took_refusal
 
 pub returns-in-Ask : goal.returns-in-Ask
 returns-in-Ask c =
-    took_question _ _ _ c.if-n-ne0.false c.refusal-n.ensures.meant _ _ c.judge.result
+    took_question _ _ _ (none_given c.in_default.not-Some) c.refusal.ensures.meant _ _ c.judge.result
     c.answer_to.result
     (question_of_lem _ _ _ c.in-Ask.is)
     c.judge.ensures.by_bytes

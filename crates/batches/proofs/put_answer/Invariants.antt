@@ -1,11 +1,6 @@
 -- `batches::put_answer` meets its contract. Assumes nothing.
-use Rattle.meaning.specs.Batch.{width}
 use Rattle.batches.proofs.Filling.{Filled}
-use Prim.Native.Nat.{◌-◌}
 use Rattle.batches.proofs.put_answer.Given as goal
 
 abbrev pub invariant-loop-i : goal.invariant-loop-i
 invariant-loop-i l = Filled l.initial.out l.bytes l.at l.out l.i
-
-abbrev pub decreases-loop-i : goal.decreases-loop-i
-decreases-loop-i l = width - l.i

@@ -1,12 +1,12 @@
 -- `edits::carry_row` meets its contract. Assumes nothing.
-use Rattle.edits.proofs.Does.{row_carried, row_of_other, row_of_neighbour}
+use mathlib.Core.Path.{refl}
+use Rattle.edits.proofs.Does.{row_carried, row_left}
 use Rattle.edits.proofs.carry_row.Goals as goal
 
-pub returns-then-row_meets : goal.returns-then-row_meets
-returns-then-row_meets c = search row_carried
+pub returns-then-is_hit : goal.returns-then-is_hit
+returns-then-is_hit c =
+    row_carried c.args.b.now c.args.i c.args.new c.args.key _ c.is_hit.ensures _ _ _ c.if-is_hit.true c.put.ensures refl c.record_at-r.ensures
 
-pub returns-else-row_meets : goal.returns-else-row_meets
-returns-else-row_meets c = search row_of_other
-
-pub returns-else-row_csd-key : goal.returns-else-row_csd-key
-returns-else-row_csd-key c = search (row_of_neighbour, c.if-row_csd-key.false)
+pub returns-else-is_hit : goal.returns-else-is_hit
+returns-else-is_hit c =
+    row_left c.args.b.now c.args.i c.args.new c.args.key _ c.is_hit.ensures c.if-is_hit.false

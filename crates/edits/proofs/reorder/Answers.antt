@@ -1,13 +1,12 @@
--- `edits::reorder` meets its contract; facts are named, so that a wrong one is refused for certain. Assumes nothing.
-use Rattle.edits.proofs.Does.{rule_reordered}
+-- `edits::reorder` meets its contract. Assumes nothing.
+use mathlib.Core.Path.{ap, ◌∙◌}
+use Rattle.places.specs.Layout.{row_places}
+use Rattle.edits.specs.Moves.{carry_rows}
+use Rattle.edits.specs.Edit.{reordered_rule}
 use Rattle.edits.proofs.reorder.Goals as goal
 
 pub returns : goal.returns
+unfolding reordered_rule
 returns c =
-    rule_reordered _ c.store_rule.new.b _ _ c.args.new c.args.key _ _ _
-    c.carry_rows.ensures
-    c.store_rule.ensures
-    c.new-moved.ensures
-    c.rule_at-r.ensures
-    c.find_rule-i.ensures
-    c.zero.ensures
+    let k = c.args.key in
+    c.carry_rows.ensures ∙ ap (λ x. carry_rows k.csd k.number k.object k.sequence c.args.new x row_places) c.move_rule.ensures

@@ -12,5 +12,5 @@ returns c =
     c.none_passed-none.ensures
     c.signs_matched-signs.ensures
     c.mark_rules.ensures
-    c.row_space-rows.ensures
+    c.blank-rows.ensures.long
     in record { by_bytes = both.0; meant = both.1 }

@@ -5,5 +5,5 @@ use Rattle.judge.proofs.rules_within.Goals as goal
 pub returns-then-fresh : goal.returns-then-fresh
 returns-then-fresh c = search fresh_rows
 
-pub returns : goal.returns
-returns c = search all_rows
+pub returns-else-fresh : goal.returns-else-fresh
+returns-else-fresh c = search all_rows

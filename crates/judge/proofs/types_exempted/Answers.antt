@@ -1,36 +1,14 @@
 -- `judge::types_exempted` meets its contract. Assumes nothing.
-use mathlib.Core.Path.{◌≡◌, refl}
-use native.Mathlib.Omega.{arith}
-use Rattle.tables.proofs.Keying.{keyed_none, keyed_marks}
-use Rattle.owners.specs.Next.{next_type}
-use Rattle.owners.proofs.NextPassing.{next_within}
-use Rattle.places.specs.Layout.{type_places}
-use Rattle.judge.specs.Stages.{types_exempted}
-use Rattle.owners.proofs.NextPassing.{pass_more, pass_end}
-use borrow.Author.Rules.{rules}
+use Rattle.std.proofs.Common.{refl}
+use Rattle.tables.specs.Keyed.{marked}
+use Rattle.tables.proofs.Keying.{keyed_marks}
+use Rattle.places.specs.Layout.{type_places, type_at}
+use Rattle.passes.proofs.Passing.{blank_whole, keyed_of}
+use Rattle.judge.specs.Stages.{type_numbers, type_exempted, types_exempted}
 use Rattle.judge.proofs.types_exempted.Goals as goal
 
-pub loop-i-init : goal.loop-i-init
-unfolding types_exempted next_type
-loop-i-init c = (search rules, search keyed_none)
-
-pub returns-then-k-eq-PLACES : goal.returns-then-k-eq-PLACES
-unfolding types_exempted next_type
-returns-then-k-eq-PLACES c =
-    keyed_marks _ _ _ _ _ _ _ type_places type_places (pass_end _ _ _ _ _ _ _ _ _ _ _ c.next_type-k.ensures c.loop-i.invariant.0 c.if-k-eq-PLACES.true c.loop-i.invariant.1) refl
-
-pub overflow_add-i : goal.overflow_add-i
-unfolding types_exempted next_type
-overflow_add-i c = omega (arith, next_within _ _ _ _ c.next_type-k.ensures c.loop-i.invariant.0)
-
-pub loop-i-smaller : goal.loop-i-smaller
-unfolding types_exempted next_type
-loop-i-smaller c = omega (arith, next_within _ _ _ _ c.next_type-k.ensures c.loop-i.invariant.0)
-
-pub loop-i-preserved : goal.loop-i-preserved
-unfolding types_exempted next_type
-loop-i-preserved c = (omega (arith, next_within _ _ _ _ c.next_type-k.ensures c.loop-i.invariant.0), search pass_more)
-
 pub returns : goal.returns
-unfolding types_exempted next_type
-returns c = let e : c.loop-i.i ≡ type_places = omega arith in search keyed_marks
+unfolding types_exempted
+returns c =
+    keyed_marks type_numbers _ _ (type_at c.args.b.now) (λ t. t.number) (type_exempted c.args.q (marked c.args.signs.now)) _ type_places type_places
+    (keyed_of _ type_numbers c.blank-t.ensures.long c.run.ensures) refl

@@ -1,37 +1,15 @@
 -- `judge::types_named` meets its contract. Assumes nothing.
-use mathlib.Core.Path.{◌≡◌, refl}
-use native.Mathlib.Omega.{arith}
-use Rattle.tables.proofs.Keying.{keyed_none, keyed_leasts}
-use Rattle.owners.specs.Next.{next_type}
-use Rattle.owners.proofs.NextPassing.{next_within}
-use Rattle.places.specs.Layout.{type_places}
-use Rattle.judge.specs.Stages.{types_named}
-use Rattle.owners.proofs.NextPassing.{pass_more, pass_end}
-use borrow.Author.Rules.{rules}
+use Rattle.std.proofs.Common.{refl}
+use Rattle.tables.specs.Keyed.{marked}
+use Rattle.tables.proofs.Keying.{keyed_leasts}
+use Rattle.places.specs.Layout.{type_places, type_at}
+use Rattle.passes.proofs.Passing.{blank_whole, keyed_of}
+use Rattle.judge.specs.Stages.{processings, type_applies, types_named}
+use Rattle.judge.specs.Within.{type_passed}
 use Rattle.judge.proofs.types_named.Goals as goal
 
-pub loop-i-init : goal.loop-i-init
-unfolding types_named next_type
-loop-i-init c = (search rules, search keyed_none)
-
-pub returns-then-k-eq-PLACES : goal.returns-then-k-eq-PLACES
-unfolding types_named next_type
-returns-then-k-eq-PLACES c =
-    keyed_leasts _ _ _ _ _ _ _ _ type_places type_places (pass_end _ _ _ _ _ _ _ _ _ _ _ c.next_type-k.ensures c.loop-i.invariant.0 c.if-k-eq-PLACES.true c.loop-i.invariant.1) refl
-
-pub overflow_add-i : goal.overflow_add-i
-unfolding types_named next_type
-overflow_add-i c = omega (arith, next_within _ _ _ _ c.next_type-k.ensures c.loop-i.invariant.0)
-
-pub loop-i-smaller : goal.loop-i-smaller
-unfolding types_named next_type
-loop-i-smaller c = omega (arith, next_within _ _ _ _ c.next_type-k.ensures c.loop-i.invariant.0)
-
-pub loop-i-preserved : goal.loop-i-preserved
-unfolding types_named next_type
-loop-i-preserved c = (omega (arith, next_within _ _ _ _ c.next_type-k.ensures c.loop-i.invariant.0), search pass_more)
-
 pub returns : goal.returns
-unfolding types_named next_type
+unfolding types_named
 returns c =
-    let e : c.loop-i.i ≡ type_places = omega arith in keyed_leasts _ _ _ _ _ _ _ _ _ type_places c.loop-i.invariant.1 e
+    keyed_leasts processings _ _ (type_at c.args.b.now) (λ t. t.processing) (type_applies c.args.asked.now.q (type_passed c.args.asked.now.scope (marked c.args.asked.now.passed.now)) (marked c.args.asked.now.signs.now)) (λ t. t.number) _ type_places type_places
+    (keyed_of _ processings c.blank-t.ensures.long c.run.ensures) refl

@@ -1,15 +1,12 @@
 -- `keler::keler_line` meets its contract.
-use Rattle.keler.proofs.Stepping.{refuses, numbered, ready, steps}
+use Rattle.keler.proofs.Stepping.{numbered, ready, steps}
 use Rattle.keler.proofs.keler_line.Goals as goal
 
-pub returns-then-refused-ne0 : goal.returns-then-refused-ne0
-returns-then-refused-ne0 c = search (refuses, c.if-refused-ne0.true)
-
 pub overflow_sub-n : goal.overflow_sub-n
-overflow_sub-n c = search numbered
+overflow_sub-n c = numbered _ _ _ _ _ _ c.refusal.ensures c.in_default.is
 
 pub put-requires : goal.put-requires
-put-requires c = search ready
+put-requires c = ready _ _ _ _ _ _ c.refusal.ensures c.in_default.is c.set_line-line.ensures
 
 pub returns : goal.returns
-returns c = search steps
+returns c = steps _ _ _ _ _ _ c.refusal.ensures c.in_default.is c.set_line-line.ensures c.put.ensures

@@ -1,6 +1,12 @@
 -- `keler::refusal` meets its contract.
-use Rattle.keler.proofs.Stepping.{refused}
+use Rattle.keler.proofs.Stepping.{not_admitted, too_early, not_refused}
 use Rattle.keler.proofs.refusal.Goals as goal
 
+pub returns-then-not-is_admitted : goal.returns-then-not-is_admitted
+returns-then-not-is_admitted c = not_admitted _ _ _ _ _ _ c.is_admitted.ensures c.if-not-is_admitted.true
+
+pub returns-then-dates : goal.returns-then-dates
+returns-then-dates c = too_early _ _ _ _ _ _ c.is_admitted.ensures c.if-not-is_admitted.false c.if-dates.true
+
 pub returns : goal.returns
-returns c = search refused
+returns c = not_refused _ _ _ _ _ _ c.is_admitted.ensures c.if-not-is_admitted.false c.if-dates.false

@@ -1,6 +1,9 @@
 -- `marks::is_flagged` meets its contract. Assumes nothing.
-use Rattle.marks.proofs.Flagging.{flagged_by}
+use Prim.Native.Nat.{◌%◌}
+use mathlib.Core.Path.{ap, ◌∙◌}
+use Rattle.marks.specs.Flags.{flag, flagged}
 use Rattle.marks.proofs.is_flagged.Goals as goal
 
 pub returns : goal.returns
-returns c = search flagged_by
+unfolding flagged
+returns g c = c.has_flag.ensures ∙ ap (flag (c.args.k % g.row.N)) c.byte_at.ensures

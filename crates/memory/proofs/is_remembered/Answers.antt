@@ -1,6 +1,9 @@
 -- `memory::is_remembered` meets its contract. Assumes nothing.
-use Rattle.memory.proofs.Bits.{bit_by}
+use mathlib.Core.Path.{ap, ◌∙◌}
+use Rattle.marks.specs.Flags.{flagged}
+use Rattle.memory.specs.Remembered.{bit_of}
 use Rattle.memory.proofs.is_remembered.Goals as goal
 
 pub returns : goal.returns
-returns c = search bit_by
+unfolding bit_of
+returns c = c.is_flagged.ensures ∙ ap (flagged 8 c.args.m) c.from.ensures

@@ -7,7 +7,4 @@ use Rattle.memory.specs.Remembered.{with_types_to}
 use Rattle.memory.proofs.with_types.Given as goal
 
 abbrev pub invariant-loop-n : goal.invariant-loop-n
-invariant-loop-n l = (l.n ≤ 99) × (length l.r ≡ 13) × (l.r ≡ with_types_to l.n l.initial.r (marked l.marks))
-
-abbrev pub decreases-loop-n : goal.decreases-loop-n
-decreases-loop-n l = 99 - l.n
+invariant-loop-n l = (1 ≤ l.n) × ((l.n ≤ 100) × ((length l.r ≡ 13) × (l.r ≡ with_types_to (l.n - 1) l.initial.r (marked l.marks))))

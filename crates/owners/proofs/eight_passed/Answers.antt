@@ -4,7 +4,8 @@ use Rattle.owners.proofs.Finding.{eight_passed}
 use Rattle.owners.proofs.eight_passed.Goals as goal
 
 pub returns-then-at-width : goal.returns-then-at-width
-returns-then-at-width c = eight_passed c.args.b.now _ _ c.args.a _ _ _ c.first_of_eight.ensures c.address-at.ensures
+returns-then-at-width g c =
+    eight_passed c.args.b.now _ _ c.args.a _ _ _ _ c.first_of_eight.ensures c.address-at.ensures (omega arith)
 
 pub returns : goal.returns
-returns c = (omega arith, λ j low high. absurd (omega arith))
+returns g c = (omega arith, λ j low high. absurd (omega arith))

@@ -1,9 +1,12 @@
 -- `ranges::is_date` meets its contract. Assumes nothing.
-use Rattle.ranges.proofs.DateReturns.{month_wrong, month_shift, common_fits, day_zero, day_in, leap_day}
+use Rattle.ranges.proofs.DateReturns.{month_none, month_late, month_shift, common_fits, day_zero, day_in, leap_day}
 use Rattle.ranges.proofs.is_date.Goals as goal
 
-pub returns-then-no : goal.returns-then-no
-returns-then-no c = search month_wrong
+pub returns-then-month-eq0 : goal.returns-then-month-eq0
+returns-then-month-eq0 c = search month_none
+
+pub returns-then-month-gt12 : goal.returns-then-month-gt12
+returns-then-month-gt12 c = search month_late
 
 pub returns-then-day-eq0 : goal.returns-then-day-eq0
 returns-then-day-eq0 c = search day_zero

@@ -1,16 +1,15 @@
-use Rattle.std.proofs.Common.{arith, sym, ◌∙◌}
+-- `rules::first_positive` meets its contract. Assumes nothing.
+use Rattle.std.proofs.Common.{sym, ◌∙◌}
 use Rattle.rules.proofs.Turns.{hits, misses, ended}
 use Rattle.rules.proofs.first_positive.Goals as goal
 
 pub returns-then-may_decide : goal.returns-then-may_decide
 returns-then-may_decide c =
-    hits c.args.rules.now c.loop-i.i c.loop-i-test.true (sym c.if-may_decide.ensures) ∙ c.loop-i.invariant.1
+    hits c.args.rules.now c.loop-r.r-index c.loop-r-test.true (sym c.if-may_decide.ensures) ∙ c.loop-r.invariant
 
-pub loop-i-preserved : goal.loop-i-preserved
-loop-i-preserved c = (
-  omega (arith, c.loop-i-test.true),
-  misses c.args.rules.now c.loop-i.i c.loop-i-test.true (sym c.if-may_decide.ensures) ∙ c.loop-i.invariant.1,
-)
+pub loop-r-preserved : goal.loop-r-preserved
+loop-r-preserved c =
+    misses c.args.rules.now c.loop-r.r-index c.loop-r-test.true (sym c.if-may_decide.ensures) ∙ c.loop-r.invariant
 
 pub returns : goal.returns
-returns c = ended c.args.rules.now c.loop-i.i c.loop-i-test.false ∙ c.loop-i.invariant.1
+returns c = ended c.args.rules.now c.loop-r.r-index c.loop-r-test.false ∙ c.loop-r.invariant

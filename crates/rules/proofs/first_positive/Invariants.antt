@@ -1,10 +1,7 @@
--- What is found from i on is what is found in all.
-use Rattle.std.proofs.Common.{length, drop, ◌-◌, ◌≡◌, ◌≤◌}
+-- What is found from place r-index on is what is found in all.
+use Rattle.std.proofs.Common.{drop, ◌≡◌}
 use Rattle.rules.specs.Search.{first_positive}
 use Rattle.rules.proofs.first_positive.Given as goal
 
-abbrev pub invariant-loop-i : goal.invariant-loop-i
-invariant-loop-i l = (l.i ≤ length l.rules) × (first_positive (drop l.i l.rules) ≡ first_positive l.rules)
-
-abbrev pub decreases-loop-i : goal.decreases-loop-i
-decreases-loop-i l = length l.rules - l.i
+abbrev pub invariant-loop-r : goal.invariant-loop-r
+invariant-loop-r l = first_positive (drop l.r-index l.rules) ≡ first_positive l.rules

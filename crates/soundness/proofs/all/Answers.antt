@@ -1,38 +1,23 @@
 -- `soundness::all` meets its contract. Assumes nothing.
-use Rattle.std.proofs.Common.{arith}
-use Rattle.chains.proofs.ChainPassing.{going_none, blocks_on}
-use Rattle.soundness.proofs.Passes.{all_place, all_block, all_owners, all_fail, all_end}
+use Rattle.std.proofs.Common.{◌∙◌, arith}
+use Rattle.soundness.proofs.KindFacts.{kind_few}
+use Rattle.soundness.proofs.Passes.{all_start, all_block, all_on, all_fail, all_end}
 use Rattle.soundness.proofs.all.Goals as goal
 
-pub loop-i-init : goal.loop-i-init
-loop-i-init c = (search going_none, omega arith)
+pub loop-block-init : goal.loop-block-init
+loop-block-init g c = (omega arith, search all_start)
 
-pub pass_block-requires-clause-place_of : goal.pass_block-requires-clause-place_of
-pass_block-requires-clause-place_of c = search all_place
+pub overflow_mul-block : goal.overflow_mul-block
+overflow_mul-block g c = omega (arith, kind_few g.R.Placed.kind, g.met.R.Placed.many)
 
-pub pass_block-requires-clause-block_places_bound : goal.pass_block-requires-clause-block_places_bound
-pass_block-requires-clause-block_places_bound c = search all_block
-
-pub pass_block-requires-clause-owners_chained : goal.pass_block-requires-clause-owners_chained
-pass_block-requires-clause-owners_chained c = search all_owners
-
-pub shape_of-head-then-not-pass_block : goal.shape_of-head-then-not-pass_block
-shape_of-head-then-not-pass_block c = omega (arith, c.requires.unchained.heads.long)
-
-pub shape_of-next-then-not-pass_block : goal.shape_of-next-then-not-pass_block
-shape_of-next-then-not-pass_block c = omega (arith, c.requires.unchained.nexts.long)
+pub pass_block-requires-clause-block : goal.pass_block-requires-clause-block
+pass_block-requires-clause-block g c = let e = c.PLACES-block-end.ensures ∙ g.met.R.Placed.many in search all_block
 
 pub returns-then-not-pass_block : goal.returns-then-not-pass_block
-returns-then-not-pass_block c = search all_fail
+returns-then-not-pass_block g c = search all_fail
 
-pub overflow_add-i : goal.overflow_add-i
-overflow_add-i c = omega arith
-
-pub loop-i-smaller : goal.loop-i-smaller
-loop-i-smaller c = omega arith
-
-pub loop-i-preserved : goal.loop-i-preserved
-loop-i-preserved c = (search blocks_on, omega arith)
+pub loop-block-preserved : goal.loop-block-preserved
+loop-block-preserved g c = (omega arith, search all_on)
 
 pub returns : goal.returns
-returns c = search all_end
+returns g c = let e = c.PLACES-block-end.ensures ∙ g.met.R.Placed.many in search all_end

@@ -1,47 +1,18 @@
 -- `soundness::held` meets its contract. Assumes nothing.
-use Rattle.std.proofs.Common.{arith}
-use Rattle.chains.proofs.Chaining.{walk_less, walk_end}
-use Rattle.soundness.proofs.Walks.{held_start, own_within, other_within, held_found, held_inside, held_on}
+use Rattle.std.proofs.Common.{◌≡◌, ◌<◌, refl, arith, rules}
+use Rattle.soundness.proofs.KindFacts.{kind_few}
+use Rattle.soundness.specs.Kinds.{table_of, address_of, alike_at}
+use Rattle.soundness.proofs.Walks.{walkable, held_walk, held_here}
 use Rattle.soundness.proofs.held.Goals as goal
 
-pub offset_bounds-head-k : goal.offset_bounds-head-k
-offset_bounds-head-k c = omega arith
-
-pub bounds-head-k : goal.bounds-head-k
-bounds-head-k c = omega arith
-
-pub loop-j-init : goal.loop-j-init
-loop-j-init c = search held_start
-
-pub overflow_sub-j : goal.overflow_sub-j
-overflow_sub-j c = omega arith
-
-pub alike-requires-clause-kind_in_bounds : goal.alike-requires-clause-kind_in_bounds
-alike-requires-clause-kind_in_bounds c = search own_within
-
-pub alike-requires-clause-kind_in_bounds_2 : goal.alike-requires-clause-kind_in_bounds_2
-alike-requires-clause-kind_in_bounds_2 c = search other_within
-
-pub returns-then-alike : goal.returns-then-alike
-returns-then-alike c = search held_found
-
-pub overflow_sub-j-in-loop-j : goal.overflow_sub-j-in-loop-j
-overflow_sub-j-in-loop-j c = omega arith
-
-pub overflow_cast-j : goal.overflow_cast-j
-overflow_cast-j c = omega arith
-
-pub offset_bounds-next-j : goal.offset_bounds-next-j
-offset_bounds-next-j c = omega arith
-
-pub bounds-next-j : goal.bounds-next-j
-bounds-next-j c = search held_inside
-
-pub loop-j-smaller : goal.loop-j-smaller
-loop-j-smaller c = search walk_less
-
-pub loop-j-preserved : goal.loop-j-preserved
-loop-j-preserved c = search held_on
+pub any-requires : goal.any-requires
+any-requires g c =
+    walkable c.args.book.bytes.now g.R.Placed.kind _ _ c.args.i _ c.requires.chained_of (omega (arith, c.requires.place, kind_few g.R.Placed.kind)) (omega arith)
+    (λ j l. let h : j < (table_of g.R.Placed.kind).places = omega (arith, l, c.requires.place) in search rules)
 
 pub returns : goal.returns
-returns c = search walk_end
+returns g c =
+    held_walk c.args.book.bytes.now g.R.Placed.kind c.args.i _ _ _ _ c.any.ensures c.requires.k_value c.requires.i_nonzero c.requires.chained_of
+    (λ n t l p.
+    let e : t ≡ alike_at c.args.book.bytes.now g.R.Placed.kind c.of-place.result.start (address_of g.R.Placed.kind n) = search (rules, p) in
+    held_here c.args.book.bytes.now g.R.Placed.kind c.args.i n _ _ t e refl c.of-place.ensures)

@@ -1,46 +1,43 @@
 -- `soundness::pass` meets its contract. Assumes nothing.
-use Rattle.soundness.proofs.Walks.{own_within, first_within}
-use Rattle.soundness.proofs.Passes.{used_at, used_of, lone_bucket, lone_inside, entry_inside, pass_free, pass_over, pass_unfit, pass_held, pass_on}
+use Rattle.std.proofs.Common.{◌∙◌, ap, not}
+use Rattle.soundness.proofs.Passes.{first_inside, used_at, used_of, lone_bucket, lone_inside, entry_inside, pass_free, pass_over, pass_chained, pass_unfit, pass_held, pass_on}
 use Rattle.soundness.proofs.pass.Goals as goal
 
-pub bounds-b-at : goal.bounds-b-at
-bounds-b-at c = search first_within
-
-pub place_free-requires : goal.place_free-requires
-place_free-requires c = search own_within
+pub one-csd-requires : goal.one-csd-requires
+one-csd-requires g c = search first_inside
 
 pub returns-then-csd-eq0 : goal.returns-then-csd-eq0
-returns-then-csd-eq0 c = search pass_free
+returns-then-csd-eq0 g c = search pass_free
 
 pub returns-then-not-counted : goal.returns-then-not-counted
-returns-then-not-counted c = search pass_over
+returns-then-not-counted g c = pass_over _ g.R.Placed.kind _ _ _ c.of-place.ensures c.one-csd.ensures _ c.requires.ready _ (c.QUOTA.ensures ∙ g.met.R.Placed.few) _ _ c.counted.ensures c.if-csd-eq0.false (ap not c.if-not-counted.true)
 
-pub lone-k-requires-clause-kind_in_bounds : goal.lone-k-requires-clause-kind_in_bounds
-lone-k-requires-clause-kind_in_bounds c = search own_within
+pub lone-requires-clause-at_nonzero : goal.lone-requires-clause-at_nonzero
+lone-requires-clause-at_nonzero g c = search used_at
 
-pub lone-k-requires-clause-at_nonzero : goal.lone-k-requires-clause-at_nonzero
-lone-k-requires-clause-at_nonzero c = search used_at
-
-pub returns-then-k-eq-BUCKETS : goal.returns-then-k-eq-BUCKETS
-returns-then-k-eq-BUCKETS c = search pass_unfit
+pub returns-in_default : goal.returns-in_default
+returns-in_default g c = pass_unfit _ g.R.Placed.kind _ _ _ c.of-place.ensures c.one-csd.ensures _ c.requires.ready _ (c.QUOTA.ensures ∙ g.met.R.Placed.few) _ _ c.counted.ensures c.if-csd-eq0.false _ c.lone.ensures c.in_default.is
 
 pub held-requires-clause-i_nonzero : goal.held-requires-clause-i_nonzero
-held-requires-clause-i_nonzero c = search used_of
+held-requires-clause-i_nonzero g c = search used_of
 
 pub held-requires-clause-k_value : goal.held-requires-clause-k_value
-held-requires-clause-k_value c = search lone_bucket
+held-requires-clause-k_value g c = lone_bucket _ g.R.Placed.kind _ _ _ c.of-place.ensures c.one-csd.ensures _ c.lone.ensures _ c.in-Some.is
 
 pub held-requires-clause-k_bound : goal.held-requires-clause-k_bound
-held-requires-clause-k_bound c = search lone_inside
+held-requires-clause-k_bound g c = search lone_inside
+
+pub held-requires-clause-chained_of : goal.held-requires-clause-chained_of
+held-requires-clause-chained_of g c = pass_chained _ g.R.Placed.kind _ _ _ c.of-place.ensures c.one-csd.ensures _ c.requires.ready _ (c.QUOTA.ensures ∙ g.met.R.Placed.few) _ _ c.counted.ensures c.if-csd-eq0.false (ap not c.if-not-counted.false)
 
 pub returns-then-held : goal.returns-then-held
-returns-then-held c = search pass_held
+returns-then-held g c = pass_held _ g.R.Placed.kind _ _ _ c.of-place.ensures c.one-csd.ensures _ c.requires.ready _ (c.QUOTA.ensures ∙ g.met.R.Placed.few) _ _ c.counted.ensures c.if-csd-eq0.false _ c.held.ensures c.if-held.true
 
 pub enter-requires-clause-k_bound : goal.enter-requires-clause-k_bound
-enter-requires-clause-k_bound c = search lone_inside
+enter-requires-clause-k_bound g c = search lone_inside
 
 pub enter-requires-clause-i_bound : goal.enter-requires-clause-i_bound
-enter-requires-clause-i_bound c = search entry_inside
+enter-requires-clause-i_bound g c = search entry_inside
 
 pub returns : goal.returns
-returns c = search pass_on
+returns g c = pass_on _ g.R.Placed.kind _ _ _ c.of-place.ensures c.one-csd.ensures _ c.requires.ready _ (c.QUOTA.ensures ∙ g.met.R.Placed.few) _ _ c.counted.ensures c.if-csd-eq0.false _ _ _ _ c.enter.ensures c.held.ensures c.if-held.false c.lone.ensures c.in-Some.is (ap not c.if-not-counted.false)

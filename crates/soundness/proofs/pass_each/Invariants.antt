@@ -6,7 +6,7 @@ use Rattle.soundness.specs.Kinds.{table_of, csd_of, bucket_of, right_of}
 use Rattle.soundness.proofs.pass_each.Given as goal
 
 abbrev pub invariant-loop-i : goal.invariant-loop-i
-invariant-loop-i l = (l.i ≤ l.from + block_places) × Going (csd_of l.b l.t.kind) (bucket_of l.b l.t.kind) (table_of l.t.kind).places (right_of l.b l.t.kind) l.i l.counts l.head l.next
+invariant-loop-i g l = (l.i ≤ l.from + block_places) × Going (csd_of l.book.bytes.now g.R.Placed.kind) (bucket_of l.book.bytes.now g.R.Placed.kind) (table_of g.R.Placed.kind).places (right_of l.book.bytes.now g.R.Placed.kind) l.i l.seen
 
 abbrev pub decreases-loop-i : goal.decreases-loop-i
-decreases-loop-i l = l.from + block_places - l.i
+decreases-loop-i g l = l.from + block_places - l.i

@@ -3,7 +3,8 @@ use Prim.Native.Nat.{◌≤◌, ◌-◌}
 use mathlib.Core.Path.{◌≡◌}
 use Rattle.tables.specs.Sweep.{sweep_to}
 use Rattle.places.specs.Layout.{instruction_places}
-use Rattle.starting.specs.Days.{kept, start_step}
+use Rattle.records.specs.Tables.{kept}
+use Rattle.starting.specs.Days.{start_step}
 use Rattle.starting.proofs.start_day.Given as goal
 
 abbrev pub invariant-loop-i : goal.invariant-loop-i

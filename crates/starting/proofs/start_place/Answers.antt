@@ -2,8 +2,8 @@
 use Rattle.starting.proofs.Started.{stored_here, passed_by}
 use Rattle.starting.proofs.start_place.Goals as goal
 
-pub returns-then-instruction_csd-csd : goal.returns-then-instruction_csd-csd
-returns-then-instruction_csd-csd c = search stored_here
+pub returns-then-csd_at-csd : goal.returns-then-csd_at-csd
+returns-then-csd_at-csd c = search stored_here
 
-pub returns-else-instruction_csd-csd : goal.returns-else-instruction_csd-csd
-returns-else-instruction_csd-csd c = search (passed_by, c.if-instruction_csd-csd.false)
+pub returns-else-csd_at-csd : goal.returns-else-csd_at-csd
+returns-else-csd_at-csd c = search (passed_by, c.if-csd_at-csd.false)

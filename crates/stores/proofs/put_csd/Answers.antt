@@ -4,4 +4,4 @@ use Rattle.stores.proofs.put_csd.Goals as goal
 
 pub returns : goal.returns
 returns c =
-    csd_put _ _ _ _ _ _ _ _ _ _ c.put_one-2.ensures c.wide-2.ensures.value c.put_two.ensures c.put_one.ensures c.wide.ensures.value
+    csd_put _ _ _ _ _ _ _ _ _ _ c.put_one-2.ensures c.from-2.ensures c.put_two.ensures c.put_one.ensures c.from.ensures

@@ -1,6 +1,9 @@
 -- `keler::set::type_line` meets its contract.
+use mathlib.Core.Path.{refl}
+use Rattle.meaning.specs.Keler.{keler_types}
 use Rattle.keler.proofs.SetLines.{typed}
 use Rattle.keler.proofs.set.type_line.Goals as goal
 
 pub returns : goal.returns
-returns c = search typed
+unfolding keler_types
+returns c = typed c.args.n c.args.csd c.args.dates.day c.args.dates.first c.args.dates.last c.write_line.ensures refl refl refl c.requires

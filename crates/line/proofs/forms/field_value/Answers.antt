@@ -1,17 +1,12 @@
 -- `line::forms::field_value` meets its contract.
-use borrow.Author.Tests.{lt-ltb, le-ltb, eq-eqb, ne_eqb}
+use mathlib.Core.Path.{sym, ◌∙◌}
 use Rattle.meaning.specs.Forms.{read}
-use Rattle.shapes.specs.Table.{empty_from}
 use Rattle.line.proofs.forms.field_value.Goals as goal
 
-pub returns-then-form-lt-OPTIONAL : goal.returns-then-form-lt-OPTIONAL
+pub returns-then-is_empty : goal.returns-then-is_empty
 unfolding read
-returns-then-form-lt-OPTIONAL c = rw (lt-ltb _ empty_from c.if-form-lt-OPTIONAL.true) c.plain_value.ensures
+returns-then-is_empty c = rw (c.in-Optional.is, sym c.is_empty.ensures ∙ c.if-is_empty.true)
 
-pub returns-then-f-eq0 : goal.returns-then-f-eq0
+pub returns-else-is_empty : goal.returns-else-is_empty
 unfolding read
-returns-then-f-eq0 c = rw (le-ltb _ empty_from c.if-form-lt-OPTIONAL.false, eq-eqb _ 0 c.if-f-eq0.true)
-
-pub returns : goal.returns
-unfolding read
-returns c = rw (le-ltb _ empty_from c.if-form-lt-OPTIONAL.false, ne_eqb _ 0 c.if-f-eq0.false) c.plain_value-2.ensures
+returns-else-is_empty c = rw (c.in-Optional.is, sym c.is_empty.ensures ∙ c.if-is_empty.false) c.plain_value-in-Optional.ensures

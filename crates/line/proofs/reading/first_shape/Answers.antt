@@ -1,22 +1,20 @@
 -- `line::reading::first_shape` meets its contract.
-use native.Mathlib.Omega.{arith}
-use Rattle.line.proofs.ShapeRows.{sought_first, shape_here, shape_next, sought_end}
+use Rattle.std.proofs.Common.{rules}
+use mathlib.Core.Path.{ap, ◌∙◌}
+use borrow.Author.Tests.{tests}
+use Rattle.std.specs.Option.{option_map}
+use Rattle.std.proofs.lemmas.Iterator.{YieldsList-from_slice}
+use Rattle.std.proofs.lemmas.Iterator.Search.{find_from_yields_List}
+use Rattle.shapes.specs.Table.{row_of}
+use Rattle.shapes.proofs.TableRule.{all_rows}
+use Rattle.line.specs.Line.{as_shape}
+use Rattle.line.proofs.ShapeRows.{first_row}
 use Rattle.line.proofs.reading.first_shape.Goals as goal
 
-pub loop-shape-init : goal.loop-shape-init
-loop-shape-init c = sought_first _
-
-pub returns-then-and : goal.returns-then-and
-returns-then-and c = search shape_here
-
-pub overflow_add-shape : goal.overflow_add-shape
-overflow_add-shape c = omega arith
-
-pub loop-shape-smaller : goal.loop-shape-smaller
-loop-shape-smaller c = omega arith
-
-pub loop-shape-preserved : goal.loop-shape-preserved
-loop-shape-preserved c = search shape_next
-
 pub returns : goal.returns
-returns c = search sought_end
+returns c =
+    let p = as_shape c.args.letter c.args.count in
+    let e =
+    find_from_yields_List (λ s. p (row_of s)) _ _ c.find.result c.find.ensures.ran (YieldsList-from_slice all_rows c.iter.ensures.rest)
+    (λ x b q k. search (rules, tests)) in
+    ap (option_map row_of) (c.copied.ensures ∙ e) ∙ first_row p

@@ -1,22 +1,20 @@
 -- `line::reading::has_letter` meets its contract.
-use native.Mathlib.Omega.{arith}
-use Rattle.line.proofs.ShapeRows.{sought_first, letter_here, letter_next, letter_none}
+use Rattle.std.proofs.Common.{rules}
+use mathlib.Core.Path.{◌∙◌}
+use mathlib.Core.List.{[], ◌∷◌}
+use borrow.Author.Tests.{tests}
+use Rattle.std.proofs.lemmas.Iterator.{YieldsList-from_slice}
+use Rattle.std.proofs.lemmas.Iterator.Search.{any_from_yields_List}
+use Rattle.meaning.specs.Forms.{has_letter}
+use Rattle.shapes.specs.Table.{row_of}
+use Rattle.shapes.proofs.TableRule.{all_rows}
+use Rattle.line.proofs.ShapeRows.{any_row}
 use Rattle.line.proofs.reading.has_letter.Goals as goal
 
-pub loop-shape-init : goal.loop-shape-init
-loop-shape-init c = sought_first _
-
-pub returns-then-letter-shape_letter : goal.returns-then-letter-shape_letter
-returns-then-letter-shape_letter c = search letter_here
-
-pub overflow_add-shape : goal.overflow_add-shape
-overflow_add-shape c = omega arith
-
-pub loop-shape-smaller : goal.loop-shape-smaller
-loop-shape-smaller c = omega arith
-
-pub loop-shape-preserved : goal.loop-shape-preserved
-loop-shape-preserved c = search letter_next
-
 pub returns : goal.returns
-returns c = search letter_none
+returns c =
+    let p = has_letter (c.args.letter ∷ []) in
+    let e =
+    any_from_yields_List (λ s. p (row_of s)) _ _ c.any.result c.any.ensures.ran (YieldsList-from_slice all_rows c.iter.ensures.rest)
+    (λ x b q k. search (rules, tests)) in
+    e ∙ any_row p

@@ -2,5 +2,5 @@
 use Rattle.soundness.proofs.BucketWords.{rule_bucket_lem}
 use Rattle.soundness.proofs.buckets.rule_bucket.Goals as goal
 
-pub returns-clause-value : goal.returns-clause-value
-returns-clause-value c = search rule_bucket_lem
+pub returns : goal.returns
+returns c = search rule_bucket_lem

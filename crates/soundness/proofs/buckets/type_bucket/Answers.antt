@@ -2,5 +2,5 @@
 use Rattle.soundness.proofs.BucketWords.{type_bucket_lem}
 use Rattle.soundness.proofs.buckets.type_bucket.Goals as goal
 
-pub returns-clause-value : goal.returns-clause-value
-returns-clause-value c = search type_bucket_lem
+pub returns : goal.returns
+returns c = search type_bucket_lem

@@ -5,5 +5,5 @@ use Rattle.text.proofs.lines.next_line.Goals as goal
 pub returns-then-end-text : goal.returns-then-end-text
 returns-then-end-text c = search line_ended
 
-pub returns : goal.returns
-returns c = search line_last
+pub returns-else-end-text : goal.returns-else-end-text
+returns-else-end-text c = search line_last

@@ -1,5 +1,5 @@
 -- `text::printing::print` meets its contract.
-use Rattle.text.proofs.Printings.{taken, refusal, judged, with_status}
+use Rattle.text.proofs.Printings.{taken, refusal, with_status}
 use Rattle.text.proofs.printing.print.Goals as goal
 
 pub returns-in-Taken : goal.returns-in-Taken
@@ -7,9 +7,6 @@ returns-in-Taken c = search taken
 
 pub returns-in-Refused : goal.returns-in-Refused
 returns-in-Refused c = search refusal
-
-pub returns-in-Judged : goal.returns-in-Judged
-returns-in-Judged c = search judged
 
 pub returns-in-WithStatus : goal.returns-in-WithStatus
 returns-in-WithStatus c = search with_status

@@ -1,9 +1,0 @@
--- `calls::keep` stays in the calls.
-use Rattle.std.proofs.Common.{◌≤◌, ◌-◌, length}
-use Rattle.calls.proofs.keep.Given as goal
-
-abbrev pub invariant-loop-i : goal.invariant-loop-i
-invariant-loop-i l = l.i ≤ l.n
-
-abbrev pub decreases-loop-i : goal.decreases-loop-i
-decreases-loop-i l = l.n - l.i

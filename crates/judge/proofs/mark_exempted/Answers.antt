@@ -1,9 +1,0 @@
--- `judge::mark_exempted` meets its contract. Assumes nothing.
-use Rattle.tables.proofs.Keying.{place_own, place_other}
-use Rattle.judge.proofs.mark_exempted.Goals as goal
-
-pub returns-then-type_csd-q : goal.returns-then-type_csd-q
-returns-then-type_csd-q c = search place_own
-
-pub returns-else-type_csd-q : goal.returns-else-type_csd-q
-returns-else-type_csd-q c = search place_other

@@ -1,7 +1,0 @@
--- `places::period_at` meets its contract. Assumes nothing.
--- Written by tools/places.py: change that, then run tools/generate.
-use Rattle.places.proofs.Reading.{period_read_lem}
-use Rattle.places.proofs.period_at.Goals as goal
-
-pub returns : goal.returns
-returns c = search period_read_lem

@@ -1,7 +1,0 @@
--- `places::row_at` meets its contract. Assumes nothing.
--- Written by tools/places.py: change that, then run tools/generate.
-use Rattle.places.proofs.Reading.{row_read_lem}
-use Rattle.places.proofs.row_at.Goals as goal
-
-pub returns : goal.returns
-returns c = search row_read_lem

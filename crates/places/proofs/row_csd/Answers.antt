@@ -1,9 +1,0 @@
--- `places::row_csd` meets its contract. Assumes nothing.
--- Written by tools/places.py: change that, then run tools/generate.
-use Rattle.places.specs.Layout.{row_at}
-use Rattle.places.proofs.Numbers.{byte_read}
-use Rattle.places.proofs.row_csd.Goals as goal
-
-pub returns : goal.returns
-unfolding row_at
-returns c = search byte_read

@@ -1,9 +1,0 @@
--- `places::rule_csd` meets its contract. Assumes nothing.
--- Written by tools/places.py: change that, then run tools/generate.
-use Rattle.places.specs.Layout.{rule_at}
-use Rattle.places.proofs.Numbers.{byte_read}
-use Rattle.places.proofs.rule_csd.Goals as goal
-
-pub returns : goal.returns
-unfolding rule_at
-returns c = search byte_read

@@ -1,9 +1,0 @@
--- `refusals::has_row` meets its contract. Assumes nothing.
-use mathlib.Core.Path.{ap}
-use lib.Dec.{ltb}
-use Rattle.tables.specs.Count.{has}
-use Rattle.refusals.proofs.has_row.Goals as goal
-
-pub returns : goal.returns
-unfolding has
-returns c = ap (ltb 0) c.count_rows.ensures.0

@@ -1,6 +1,0 @@
--- `soundness::alike::front_word` meets its contract. Assumes nothing.
-use Rattle.soundness.proofs.SameWords.{front_read}
-use Rattle.soundness.proofs.alike.front_word.Goals as goal
-
-pub returns-clause-value : goal.returns-clause-value
-returns-clause-value c = search front_read

@@ -1,6 +1,0 @@
--- `soundness::alike::type_alike` meets its contract. Assumes nothing.
-use Rattle.soundness.proofs.SameWords.{type_alike_lem}
-use Rattle.soundness.proofs.alike.type_alike.Goals as goal
-
-pub returns : goal.returns
-returns c = search type_alike_lem

@@ -1,6 +1,0 @@
--- `soundness::free::row_free` meets its contract. Assumes nothing.
-use Rattle.soundness.proofs.FreeWords.{row_free}
-use Rattle.soundness.proofs.free.row_free.Goals as goal
-
-pub returns : goal.returns
-returns c = search row_free

@@ -1,6 +1,0 @@
--- `soundness::free::rule_free` meets its contract. Assumes nothing.
-use Rattle.soundness.proofs.FreeWords.{rule_free}
-use Rattle.soundness.proofs.free.rule_free.Goals as goal
-
-pub returns : goal.returns
-returns c = search rule_free

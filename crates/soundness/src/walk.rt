@@ -1,0 +1,19 @@
+// The walk along a chain.
+ghost use Rattle.chains.specs.Chains.{Walkable, Walked};
+
+use chains::Seen;
+
+// Whether one of the places in the chain of the bucket k is as asked.
+pub(crate) fn any<F: Fn(u16) -> bool>(seen: &Seen, k: usize, asked: F) -> bool
+    requires { Walkable seen.now k (F.pre asked) }
+    ensures { Walked seen.now k (F.post asked) result }
+{
+    let mut j = seen.head[k];
+    while j != 0 {
+        if asked(j - 1) {
+            return true;
+        }
+        j = seen.next[(j - 1) as usize];
+    }
+    false
+}

@@ -1,7 +1,0 @@
--- `stores::put_period` meets its contract. Assumes nothing.
-use Rattle.stores.proofs.Storing.{period_put}
-use Rattle.stores.proofs.put_period.Goals as goal
-
-pub returns : goal.returns
-returns c =
-    period_put _ _ _ _ _ _ _ c.args.r c.put_days.ensures c.put_two.ensures c.put_three.ensures c.put_pair.ensures c.address-at.ensures

@@ -1,8 +1,0 @@
--- `stores::put_row` meets its contract. Assumes nothing.
-use Rattle.stores.proofs.Storing.{row_put}
-use borrow.Author.Rules.{rules}
-use Rattle.stores.proofs.put_row.Goals as goal
-
-pub returns : goal.returns
-returns c =
-    row_put _ _ _ _ _ _ _ _ c.put_values_6.ensures (search rules) c.put_values_0.ensures c.put_head.ensures (search rules)
