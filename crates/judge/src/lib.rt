@@ -27,7 +27,7 @@ use places::{RestrictionType, Rule};
 use rules::{ListedRule, first_positive};
 
 // The keys of a type or of a sequence, one for each sign of a rule, and 0.
-const SIGNS: usize = 3;
+const SIGNS: u8 = 3;
 
 // The sizes of the tables of marks, by their keys, and of the list of a type's rules, by sequence.
 const SIGN_KEYS: usize = 300;

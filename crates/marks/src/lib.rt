@@ -2,7 +2,8 @@
 // bytes are cleared. Past its end a table has neither.
 #![tactic(auto)]
 
-ghost use Rattle.std.specs.Prelude.{◌+◌, ◌*◌, ◌/◌, ◌%◌, ◌<◌, ◌≤◌, ◌≡◌, cond, set, get_or};
+ghost use Rattle.std.specs.Prelude.{ℕ, ◌+◌, ◌*◌, ◌/◌, ◌%◌, ◌<◌, ◌≤◌, ◌≡◌, cond, set, get_or};
+ghost use Rattle.std.proofs.Common.{rules};
 ghost use Rattle.tables.specs.Keyed.{marked, Blank};
 ghost use Rattle.marks.specs.Flags.{flag, with_flag, flagged};
 
@@ -16,11 +17,10 @@ pub fn blank<const N: usize>() -> [u8; N]
 }
 
 // The key of two numbers, of which the second is below N.
-pub fn key<const N: usize>(first: u32, second: u8) -> usize
-    requires { N < 65536 }
+pub fn key<const N: u8>(first: u32, second: u8) -> usize
     ensures { result ≡ first * N + second }
 {
-    first as usize * N + usize::from(second)
+    first as usize * usize::from(N) + usize::from(second)
 }
 
 pub fn is_marked(t: &[u8], k: usize) -> bool
@@ -38,36 +38,65 @@ pub fn store(t: &mut [u8], k: usize, on: bool, v: u8)
     }
 }
 
-// With N flags to an entry, that of the key k is flag k % N of the entry at k / N.
+// How many flags an entry has: that of the key k is flag k % N of the entry at k / N.
+pub trait Flags {
+    ghost N: { ℕ };
+
+    const N: usize;
+
+    ghost some: { 0 < N };
+
+    ghost few: { N ≤ 8 };
+}
+
+pub struct Four;
+
+impl Flags for Four {
+    ghost N = { 4 };
+
+    const N: usize = 4;
+
+    ghost some = { Prim.search rules };
+
+    ghost few = { Prim.search rules };
+}
+
+pub struct Eight;
+
+impl Flags for Eight {
+    ghost N = { 8 };
+
+    const N: usize = 8;
+
+    ghost some = { Prim.search rules };
+
+    ghost few = { Prim.search rules };
+}
 
 // Whether an entry has the flag of a key.
-fn has_flag<const N: usize>(x: u8, k: usize) -> bool
-    requires { (0 < N) × (N ≤ 8) }
-    ensures { result ≡ flag (k % N) x }
+fn has_flag<F: Flags>(x: u8, k: usize) -> bool
+    ensures { result ≡ flag (k % F.N) x }
 {
-    x >> (k % N) & 1 == 1
+    x >> (k % F::N) & 1 == 1
 }
 
 // An entry with the flag of a key.
-pub fn with_flag<const N: usize>(x: u8, k: usize) -> u8
-    requires { (0 < N) × (N ≤ 8) }
-    ensures { result ≡ with_flag (k % N) x }
+pub fn with_flag<F: Flags>(x: u8, k: usize) -> u8
+    ensures { result ≡ with_flag (k % F.N) x }
 {
-    x | 1 << (k % N)
+    x | 1 << (k % F::N)
 }
 
-pub fn is_flagged<const N: usize>(t: &[u8], k: usize) -> bool
-    requires { (0 < N) × (N ≤ 8) }
-    ensures { result ≡ flagged N t.now k }
+pub fn is_flagged<F: Flags>(t: &[u8], k: usize) -> bool
+    ensures { result ≡ flagged F.N t.now k }
 {
-    has_flag::<N>(byte_at(t, k / N), k)
+    has_flag::<F>(byte_at(t, k / F::N), k)
 }
 
 // Stores the flag of a key, if asked to, and nothing past the end.
-pub fn store_flag<const N: usize>(t: &mut [u8], k: usize, on: bool)
-    requires { (0 < N) × (N ≤ 8) }
-    ensures { t.new ≡ cond on (set t.old (k / N) (with_flag (k % N) (get_or t.old (k / N) 0))) t.old }
+pub fn store_flag<F: Flags>(t: &mut [u8], k: usize, on: bool)
+    ensures { t.new ≡ cond on (set t.old (k / F.N) (with_flag (k % F.N) (get_or t.old (k / F.N) 0))) t.old }
 {
-    let entry = byte_at(t, k / N);
-    store(t, k / N, on, with_flag::<N>(entry, k));
+    let entry = byte_at(t, k / F::N);
+    store(t, k / F::N, on, with_flag::<F>(entry, k));
 }

@@ -8,15 +8,15 @@ ghost use Rattle.marks.specs.Flags.{with_flag, flagged};
 ghost use Rattle.matching.specs.MatchedRows.{kinds, code_key, rule_key, code_entries, sought, borne_by, period_key, row_key, codes_borne, tests, values_met, row_matches, RowsMarked};
 
 use commands::Question;
-use marks::{blank, is_flagged, key, with_flag};
+use marks::{Flags, Four, blank, is_flagged, key, with_flag};
 use passes::{Pass, run};
 use places::{Period, Row};
 
 // The keys of a code, one for each kind and 0; in the table of codes they are the flags of one entry.
-const KINDS: usize = 4;
+const KINDS: u8 = 4;
 
 // The sequences of a type's rules are below this number.
-const SEQUENCES: usize = 100;
+const SEQUENCES: u8 = 100;
 
 // The sizes of the tables.
 const CODE_ENTRIES: usize = 10000;
@@ -73,11 +73,11 @@ impl Pass for Codes {
     }
 
     fn key(&self, p: Period) -> usize {
-        key::<KINDS>(p.code, p.kind) / KINDS
+        key::<KINDS>(p.code, p.kind) / Four::N
     }
 
     fn entry(&self, p: Period, before: u8) -> u8 {
-        with_flag::<KINDS>(before, key::<KINDS>(p.code, p.kind))
+        with_flag::<Four>(before, key::<KINDS>(p.code, p.kind))
     }
 }
 
@@ -102,7 +102,7 @@ fn is_met(v: u32, asked: u32) -> bool
 fn is_borne(v: u32, kind: u8, codes: &[u8]) -> bool
     ensures { result ≡ (eqb v 0 || flagged kinds codes.now (code_key v kind)) }
 {
-    v == 0 || is_flagged::<KINDS>(codes, key::<KINDS>(v, kind))
+    v == 0 || is_flagged::<Four>(codes, key::<KINDS>(v, kind))
 }
 
 // Whether each filled value is met. All ten are asked, by `&`: each is a call, and the proof takes them together.

@@ -5,10 +5,7 @@ ghost use Rattle.std.specs.Prelude.{◌≡◌};
 ghost use Rattle.tables.specs.Keyed.{marked};
 ghost use Rattle.memory.specs.Remembered.{bit_of, spare_clear, type_bits, with_types};
 
-use marks::{blank, is_flagged, is_marked, store, store_flag};
-
-// The bits of a byte.
-const BITS: usize = 8;
+use marks::{Eight, blank, is_flagged, is_marked, store, store_flag};
 
 // The type numbers, 1 to 99, are below this one.
 const TYPE_NUMBERS: u8 = 100;
@@ -17,7 +14,7 @@ const TYPE_NUMBERS: u8 = 100;
 pub fn is_remembered(m: [u8; 13], n: u8) -> bool
     ensures { result ≡ bit_of m n }
 {
-    is_flagged::<BITS>(&m, usize::from(n))
+    is_flagged::<Eight>(&m, usize::from(n))
 }
 
 // No bit is on that is no type's. All five are read, by `&`: each read is a call, and the proof takes them together.
@@ -49,7 +46,7 @@ pub fn with_types(m: [u8; 13], marks: [u8; TYPE_NUMBERS as usize]) -> [u8; 13]
     let mut r = m;
     for n in 1..TYPE_NUMBERS {
         let k = usize::from(n);
-        store_flag::<BITS>(&mut r, k, is_marked(&marks, k));
+        store_flag::<Eight>(&mut r, k, is_marked(&marks, k));
     }
     r
 }

@@ -14,7 +14,7 @@ use passes::{Pass, run};
 use places::{RestrictionType, Rule};
 
 // The keys of a type, one for each time when it may have begun, and 0.
-const TIMES: usize = 3;
+const TIMES: u8 = 3;
 
 // The size of the table of types.
 const BEGUN_KEYS: usize = 300;
