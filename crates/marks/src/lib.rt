@@ -2,8 +2,8 @@
 // bytes are cleared. Past its end a table has neither.
 #![tactic(auto)]
 
-ghost use Rattle.std.specs.Prelude.{ℕ, ◌+◌, ◌*◌, ◌/◌, ◌%◌, ◌<◌, ◌≤◌, ◌≡◌, cond, set, get_or};
-ghost use Rattle.std.proofs.Common.{rules};
+ghost use Rattle.std.specs.Prelude.{ℕ, ◌+◌, ◌*◌, ◌/◌, ◌%◌, ◌<◌, ◌≤◌, ◌≡◌, cond, set, get_or, refl};
+ghost use Rattle.std.proofs.lemmas.Bool.{leb-false, leb-true};
 ghost use Rattle.tables.specs.Keyed.{marked, Blank};
 ghost use Rattle.marks.specs.Flags.{flag, with_flag, flagged};
 
@@ -56,9 +56,9 @@ impl Flags for Four {
 
     const N: usize = 4;
 
-    ghost some = { Prim.search rules };
+    ghost some = { leb-false 4 0 refl };
 
-    ghost few = { Prim.search rules };
+    ghost few = { leb-true 4 8 refl };
 }
 
 pub struct Eight;
@@ -68,9 +68,9 @@ impl Flags for Eight {
 
     const N: usize = 8;
 
-    ghost some = { Prim.search rules };
+    ghost some = { leb-false 8 0 refl };
 
-    ghost few = { Prim.search rules };
+    ghost few = { leb-true 8 8 refl };
 }
 
 // Whether an entry has the flag of a key.
