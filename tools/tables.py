@@ -45,7 +45,7 @@ class Table:
 
     @property
     def long(self):
-        """whether its numbers are read and stored in groups: more than a proof takes at once"""
+        """whether the numbers of its array are read and stored apart from the others: more than a proof takes at once"""
         return len(self.numbers) > 14
 
 
@@ -64,7 +64,7 @@ EVERY = [
                 ("last", 4)],
         said="Signs.", named=[("POSITIVE", 1), ("NEGATIVE", 2)]),
     Table(
-        "Row", "row", "Row", "A row of a rule: its ten values, 0 where empty.",
+        "Row", "row", "Row", "A row of a rule: its ten values, 0 where empty. They are no Options: any lent bytes are read, and a value is compared as it lies.",
         places=1024, quota=128,
         fields=[("csd", 1), ("number", 1), ("object", 1), ("sequence", 1), ("values", [1, 1, 1, 4, 3, 3, 2, 2, 2, 3])]),
     Table(
@@ -75,7 +75,7 @@ EVERY = [
         said="Kinds.", named=[("PARTY", 1), ("ACCOUNT", 2), ("SECURITY", 3)]),
     Table(
         "Kept", "instruction", "Kept",
-        "A pending instruction that is kept: the days since which its holds are on, 0 where off, and the types remembered.",
+        "A pending instruction that is kept: the days since which its holds are on, 0 where off, and the types remembered. The days are no Options: they are stored as they lie, and the written meaning has 0 for a hold that is off.",
         places=256, quota=32,
         fields=[("csd", 1), ("reference", 2), ("object", 1), ("role", 1), ("movement", 1), ("payment", 1),
                 ("transaction", 4), ("currency", 3), ("party", 3), ("account", 3), ("security", 3), ("validating", 4),

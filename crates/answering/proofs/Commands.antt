@@ -1,10 +1,5 @@
 -- What each return of `take` shows: what a command does to a book.
-use Prim.Native.Nat.{ℕ}
-use mathlib.Core.Path.{◌≡◌, refl, ap, sym, ◌∙◌}
-use mathlib.Core.Bool.{Bool, true, false, cond, not}
-use mathlib.Core.List.{List}
-use Rattle.std.specs.Prelude.{Option, Some, None, is_some}
-use lib.Dec.{eqb}
+use Rattle.std.proofs.Common.{ℕ, ◌≡◌, refl, ap, sym, ◌∙◌, Bool, true, false, cond, not, List, Option, Some, None, is_some, eqb}
 use Rattle.meaning.specs.Records as M
 use Rattle.meaning.specs.Records.{question_in}
 use Rattle.meaning.specs.Refusals.{refusal}
@@ -118,7 +113,7 @@ module _ (b : List ℕ) (c : Command) where
         → x ≡ answer_to v w → Took b c x b
     unfolding reply_to replied_to reply replied
     took_question q w v x e f g h =
-        let i : question_in k ≡ Some (question_of q, w) = asked_question c.day c.row c.what ∙ ap as_meant e in
+        let i : question_in k ≡ Some (question_of q, w) = asked_question c.day c.what ∙ ap as_meant e in
         let left : b ≡ edit_in b c.csd k = sym (question_left b c.csd k (ap is_some i)) in
         took b x (rw (e, ← f) h) left
         (λ y.
@@ -132,7 +127,7 @@ module _ (b : List ℕ) (c : Command) where
         → (Accepted b c.csd k → Edited b c.csd k b') → Took b c Taken b'
     unfolding reply_to reply replied
     took_edit b' e g h =
-        let i : question_in k ≡ None = asked_question c.day c.row c.what ∙ ap as_meant e in
+        let i : question_in k ≡ None = asked_question c.day c.what ∙ ap as_meant e in
         took b' Taken (rw e) g (λ y. ap (replied m) (sym i)) (λ y. h (accepted y))
 
     -- ---- what is answered and left by definition
@@ -141,7 +136,7 @@ module _ (b : List ℕ) (c : Command) where
     unfolding replied_to
     took_reply None e = took_edit (edit_in b c.csd k) e refl (edit_left b c.csd k)
     took_reply (Some (q, w)) e =
-        let i : question_in k ≡ Some (question_of q, w) = asked_question c.day c.row c.what ∙ ap as_meant e in
+        let i : question_in k ≡ Some (question_of q, w) = asked_question c.day c.what ∙ ap as_meant e in
         rw (question_left b c.csd k (ap is_some i)) (took_question q w (judged_by b q) _ e refl (judged_right b q) refl)
 
   took_by : (o : Option Refusal) → o ≡ refusal m k

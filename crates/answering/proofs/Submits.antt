@@ -1,11 +1,6 @@
 -- What each return of `answer` shows: the promise of `submit`.
-use Prim.Native.Nat.{ℕ, ◌%◌, ◌≤◌}
-use mathlib.Core.Path.{◌≡◌, refl, ap, sym, ◌∙◌}
-use mathlib.Core.Bool.{Bool, true, false, cond, not, ◌||◌, false≢true}
-use mathlib.Core.List.{List}
-use Rattle.std.specs.Prelude.{Option, Some, None, is_some, Result, Ok, Err}
-use native.Mathlib.Omega.{arith}
-use lib.Dec.{eqb}
+use Rattle.std.proofs.Common.{ℕ, ◌%◌, ◌≤◌, ◌≡◌, refl, ap, sym, ◌∙◌, Bool, true, false, cond, not, ◌||◌, List, Option, Some, None, is_some, Result, Ok, Err, arith}
+use mathlib.Core.Bool.{false≢true}
 use borrow.Author.Tests.{not-true}
 use Rattle.tables.proofs.Counts.{cases, cases_eq}
 use Rattle.meaning.specs.Forms.{Letter}
@@ -57,7 +52,7 @@ own_csd c (Some (q, w)) = refl
 same_book : (m : M.Book) → SameBook m m
 same_book m = same_books refl
 
-pub submitted_unsound : (how : Sent) (b line : List ℕ) (t : Bool) (x : Answer) → t ≡ sound b → not t ≡ true
+submitted_unsound : (how : Sent) (b line : List ℕ) (t : Bool) (x : Answer) → t ≡ sound b → not t ≡ true
     → x ≡ Refused UnsoundBook → SubmittedAs how b line x b
 unfolding answer_in
 submitted_unsound how b line t x e f g =
@@ -352,7 +347,7 @@ unfolding after_reading keeps_read taken_sent unless
 untaken_keeps how m (refused r) h = refl
 untaken_keeps how m (asks l v) h = untaken_by m (command_of l v) (refusal_sent (elsewhere how (v ! 0)) m (command_of l v)) h
 
-pub untaken_left : (how : Sent) (b line : List ℕ) → (answer_in how b line ≡ Taken → ⊥) → left_as_found how b line ≡ true
+untaken_left : (how : Sent) (b line : List ℕ) → (answer_in how b line ≡ Taken → ⊥) → left_as_found how b line ≡ true
 unfolding answer_in left_as_found keeps step_sent
 untaken_left how b line h =
     cases (sound b)

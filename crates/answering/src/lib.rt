@@ -59,11 +59,10 @@ fn try_answer(book: &mut [u8], line: &[u8], sound: bool, sent: Sent) -> Result<A
 
 // The answer to a line, sent alone or in a batch, over a lent book that was found to be sound, or not to be; an
 // accepted edit is stored in it.
+// Book and `sound` stay two parameters, here and in `lines` and `batches`: a desk keeps `sound` from piece to piece
+// while its caller lends the book anew, so a struct of both would be made anew at each step and lent to each line.
 pub fn answer(book: &mut [u8], line: &[u8], sound: bool, sent: Sent) -> Answer
     ensures { Answers sent sound book.old line.now result book.new }
 {
-    match try_answer(book, line, sound, sent) {
-        Ok(answer) => answer,
-        Err(refusal) => Answer::Refused(refusal),
-    }
+    try_answer(book, line, sound, sent).unwrap_or_else(Answer::Refused)
 }

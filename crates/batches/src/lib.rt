@@ -9,7 +9,6 @@ ghost use Rattle.precheck.specs.Batch.{Batched};
 ghost use Rattle.batches.specs.Taken.{Put, Turn, TakenBy, TakenIn, Taken};
 
 use answering::answer;
-use basics::byte_at;
 use meaning::{Answer, Refusal, Sent};
 use soundness::is_sound;
 use text::{next_line, print};
@@ -20,30 +19,61 @@ pub const MOST: usize = 64;
 // An answer has so many bytes of the answer space.
 pub const WIDTH: usize = 32;
 
+// A lent text, and the index in it where the next line begins. By hand and not by `split`, which gives one line more,
+// an empty one, after a final byte 10 and of an empty text.
+#[derive(Drop)]
+struct Lines<'a> {
+    text: &'a [u8],
+    at: usize,
+}
+
+impl<'a> Lines<'a> {
+    fn new(text: &'a [u8]) -> Lines<'a>
+        ensures { (result.text ≡ text.entry) × (result.at ≡ 0) }
+    {
+        Lines { text, at: 0 }
+    }
+}
+
+// The lines of the text, one after the other.
+impl<'a> Iterator for Lines<'a> {
+    ghost use Rattle.std.specs.Iterator.{YieldsFirstRef, item_count};
+    ghost use Rattle.batches.specs.Left.{lines_left};
+
+    type Item = &'a [u8];
+
+    ghost next_gives = { YieldsFirstRef lines_left };
+
+    ghost remaining = { item_count lines_left };
+
+    fn next(&mut self) -> Option<&'a [u8]> {
+        if self.at >= self.text.len() {
+            return None;
+        }
+        let start = self.at;
+        let line = next_line(self.text, start);
+        self.at = line.next;
+        Some(&self.text[start..line.end])
+    }
+}
+
 // How many lines a text has; of more than 64 the first 65 are counted.
 fn count_lines(text: &[u8]) -> usize
     ensures { result ≡ min (most + 1) (length (lines_of text.now)) }
 {
-    let mut n: usize = 0;
-    let mut from: usize = 0;
-    while n <= MOST {
-        if from >= text.len() {
-            return n;
-        }
-        let line = next_line(text, from);
-        from = line.next;
-        n += 1;
-    }
-    n
+    Lines::new(text).take(MOST + 1).count()
 }
 
-// Whether so many lines are a batch, and the answer space takes their answers.
+// Whether so many lines are a batch, and an answer space of so many bytes takes their answers.
 #[tactic(auto, unfolding(meaning::specs::Batch::fits))]
-fn has_room(n: usize, out: &[u8]) -> bool
-    ensures { result ≡ fits n (length out.now) }
+fn has_room(n: usize, space: usize) -> bool
+    ensures { result ≡ fits n space }
 {
-    n <= MOST && WIDTH * n <= out.len()
+    n <= MOST && WIDTH * n <= space
 }
+
+// The answer space goes with an index: behind a loop over `chunks_mut` a proof knows none of its bytes. `lines` has
+// functions of these names that end an answer by byte 10; a line there says why they are apart.
 
 // Writes an answer to an index of the answer space, zeros behind it.
 fn put_answer(out: &mut [u8], at: usize, a: Answer)
@@ -52,9 +82,9 @@ fn put_answer(out: &mut [u8], at: usize, a: Answer)
 {
     let p = print(a);
     let bytes = p.as_slice();
-    for i in 0..WIDTH {
-        out[at + i] = byte_at(bytes, i);
-    }
+    let end = at + bytes.len();
+    out[at..end].copy_from_slice(bytes);
+    out[end..WIDTH + at].fill(0);
 }
 
 // Answers a line, sent so, over a book that was found to be sound, or not to be, writes the answer to an index and
@@ -82,12 +112,8 @@ fn answer_each(book: &mut [u8], text: &[u8], sound: bool, sent: Sent, out: &mut 
     ensures { TakenBy sent sound book.old text.now out.old book.new out.new }
 {
     let mut at: usize = 0;
-    let mut written: usize = 0;
-    while at < text.len() {
-        let line = next_line(text, at);
-        let end = line.end;
-        written = answer_line(book, &text[at..end], sound, sent, out, written);
-        at = line.next;
+    for line in Lines::new(text) {
+        at = answer_line(book, line, sound, sent, out, at);
     }
 }
 
@@ -114,7 +140,7 @@ pub fn submit_batch(
     ensures meaning { Batched book.old csd text.now answers.old result book.new answers.new }
 {
     let n = count_lines(text);
-    if !has_room(n, answers) {
+    if !has_room(n, answers.len()) {
         return Err(Refusal::BatchTooLarge);
     }
     answer_batch(book, csd, text, answers);

@@ -1,7 +1,7 @@
 -- What emptying makes: a sound book, in which every depository's lone book is empty.
 use Prim.Native.Nat.{ℕ, ◌+◌, ◌≤◌}
 use mathlib.Core.Path.{◌≡◌, refl, ap, ◌∙◌}
-use mathlib.Core.Bool.{true, false, ◌||◌, true≢false}
+use mathlib.Core.Bool.{true, ◌||◌, true≢false}
 use Rattle.std.specs.Prelude.{Ok, Err, is_ok}
 use mathlib.Core.List.{List}
 use native.Mathlib.Omega.{arith}

@@ -25,7 +25,8 @@ pub fn empty(book: &mut [u8]) -> Result<(), Refusal>
     Ok(())
 }
 
-// ---- Over the places of a table.
+// ---- Over the places of a table. Book, depository and question are parameters: what is asked differs at each call,
+// and who asks often holds the others in a struct (refusals' `Lists`).
 
 // Whether place i holds a record of depository a that is as asked. The csd byte is read before the record, and in the
 // caller's loop: what is asked may hold a whole row, which a call would copy for each place.
@@ -54,10 +55,7 @@ pub fn count<P: Record>(b: &[u8], a: u8, q: P::Ask) -> u16
 pub fn find<P: Record>(b: &[u8], a: u8, q: P::Ask) -> Option<u16>
     ensures { result ≡ place_if P.PLACES (place_of P.table b.now a (P.asked q)) }
 {
-    for i in (0..P::PLACES).rev() {
-        if is_hit::<P>(b, i, a, q) {
-            return Some(i);
-        }
-    }
-    None
+    (0..P::PLACES)
+        .rev()
+        .find(|&i: &u16| is_hit::<P>(b, i, a, q))
 }

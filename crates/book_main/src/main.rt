@@ -6,12 +6,14 @@
 
 use basics::{byte_at, low};
 use input::read_full;
+use marks::blank;
 use places::{Period, Place, RestrictionType, Row, Rule, SIZE};
 use std::io;
 use stores::put;
 
 // ---- What is written.
 
+// As bytes: what a line says of itself comes as bytes, and `print!` takes text.
 fn tell(rt: &impl Print, sound: bool, what: &[u8]) -> io::Result<()> {
     if sound {
         rt.write_all(b"sound: ")?;
@@ -97,7 +99,7 @@ fn fill(b: &mut [u8]) {
     }
 }
 
-// ---- Depository 2.
+// ---- Depository 2. A function for each table, since each record has other fields.
 
 fn put_two_types(b: &mut [u8]) {
     let held = RestrictionType::PARTY_HOLD;
@@ -134,10 +136,11 @@ fn put_two_rules(b: &mut [u8]) {
     );
 }
 
-// CORP and EUR are their letters in base 256.
 fn put_two_rows(b: &mut [u8]) {
     let code = [0, 0, 0, 0, 0, 0, 9999, 0, 0, 0];
-    let words = [0, 0, 0, 1129271888, 0, 0, 0, 0, 0, 4543826];
+    let corp = u32::from_be_bytes(*b"CORP");
+    let euro = u32::from_be_bytes(*b"\0EUR");
+    let words = [0, 0, 0, corp, 0, 0, 0, 0, 0, euro];
     let kind = Period::SECURITY;
     put(b, 1, Row::new(2, 1, 1, 1, code));
     put(b, 9, Row::new(2, 1, 1, 2, words));
@@ -159,6 +162,8 @@ fn sound_with(b: &mut [u8], at: u32, offset: u32, v: u8) -> bool {
     soundness::is_sound(b)
 }
 
+// Where a place stands in the table of a letter; any letter but T, R and M is taken for A. The letter is matched as it
+// stands in the line: it is asked here alone, and an enum would be made of it only to be matched.
 fn address(table: u8, place: u16) -> u32 {
     match table {
         b'T' => places::address::<RestrictionType>(place),
@@ -168,12 +173,14 @@ fn address(table: u8, place: u16) -> u32 {
     }
 }
 
-// The number of four digits.
+// The decimal number of some digits. `calls` reads its numbers by the same fold: a crate for one expression would be no
+// plainer.
 fn number(s: &[u8]) -> u32 {
-    u32::from(byte_at(s, 0) % 16) * 1000
-        + u32::from(byte_at(s, 1) % 16) * 100
-        + u32::from(byte_at(s, 2) % 16) * 10
-        + u32::from(byte_at(s, 3) % 16)
+    s.iter().fold(0u32, |value, digit| {
+        value
+            .saturating_mul(10)
+            .saturating_add(u32::from(*digit % 16))
+    })
 }
 
 fn damaged(rt: &impl Print, b: &mut [u8], line: &[u8]) -> io::Result<()> {
@@ -187,7 +194,7 @@ fn damaged(rt: &impl Print, b: &mut [u8], line: &[u8]) -> io::Result<()> {
     tell(rt, sound_with(b, at, offset, v), &line[17..])
 }
 
-// What follows the last byte 10 is no line.
+// What follows the last byte 10 is no line. A line at `answer_calls` of `calls` says why they share no function here.
 fn each_line(rt: &impl Print, b: &mut [u8], text: &[u8]) -> io::Result<()> {
     let Some(last) = text.iter().rposition(|byte| *byte == b'\n') else {
         return Ok(());
@@ -199,18 +206,6 @@ fn each_line(rt: &impl Print, b: &mut [u8], text: &[u8]) -> io::Result<()> {
 }
 
 // ---- The run.
-
-fn space() -> [u8; SIZE] {
-    [0; SIZE]
-}
-
-fn short_space() -> [u8; SIZE - 1] {
-    [0; SIZE - 1]
-}
-
-fn long_space() -> [u8; SIZE + 1] {
-    [0; SIZE + 1]
-}
 
 fn run(rt: &impl Print, b: &mut [u8], text: &[u8]) -> io::Result<()> {
     empty(rt, b, b"emptied")?;
@@ -226,12 +221,12 @@ fn run(rt: &impl Print, b: &mut [u8], text: &[u8]) -> io::Result<()> {
 }
 
 fn main(rt: HostRuntime) -> io::Result<()> {
-    let mut text = [0u8; 65536];
+    let mut text: [u8; 65536] = blank();
     let n = read_full(&mut rt.reader(), &mut text)?;
-    let mut exact = space();
+    let mut exact: [u8; SIZE] = blank();
     run(&rt, &mut exact, &text[..n])?;
-    let mut short = short_space();
+    let mut short: [u8; SIZE - 1] = blank();
     empty(&rt, &mut short, b"a byte too short")?;
-    let mut long = long_space();
+    let mut long: [u8; SIZE + 1] = blank();
     empty(&rt, &mut long, b"a byte too long")
 }

@@ -10,6 +10,7 @@ mod showing;
 ghost use Rattle.std.specs.Prelude.{◌≤◌, length};
 
 use batches::submit_batch;
+use marks::blank;
 use places::SIZE;
 use reading::{behind_blank, decode, number};
 use showing::{show, show_batch, show_emptied, show_space, show_unknown};
@@ -26,7 +27,9 @@ const CALL: usize = 1048576;
 // The most answer space that is lent, whatever a call's SIZE: no step writes behind it, or asks for more.
 const LENT: usize = 65536;
 
-// What a call is answered in: the text that it stands for, and the answer space that a batch is lent.
+// What a call is answered in: the text that it stands for, and the answer space that a batch is lent. The book stands
+// beside it in each function below, since after 'x ' a call is lent a part of it; a struct of all three would carry how
+// large that part is, and each method cut it anew. A call and where answers go are apart from both.
 #[derive(Drop)]
 struct Spaces {
     text: [u8; CALL],
@@ -34,21 +37,12 @@ struct Spaces {
 }
 
 impl Spaces {
-    // Large arrays are made in functions of their own.
     fn new() -> Spaces {
         Spaces {
-            text: call_space(),
-            answers: [0u8; LENT],
+            text: blank(),
+            answers: blank(),
         }
     }
-}
-
-fn book_space() -> [u8; SIZE] {
-    [0u8; SIZE]
-}
-
-fn call_space() -> [u8; CALL] {
-    [0u8; CALL]
 }
 
 // ---- The kinds of call. Each writes its answer.
@@ -79,7 +73,7 @@ fn batch(rt: &impl Print, book: &mut [u8], call: &[u8], spaces: &mut Spaces) {
     send(rt, book, csd, text, &mut spaces.answers, size)
 }
 
-// e: empties the book.
+// e: empties the book. A match on the letter: each kind of call has other arguments behind it.
 fn answer_call(rt: &impl Print, book: &mut [u8], call: &[u8], spaces: &mut Spaces) {
     match call {
         [b'e', ..] => show_emptied(rt, precheck::empty(book)),
@@ -102,7 +96,8 @@ fn answer_sent(rt: &impl Print, book: &mut [u8], call: &[u8], spaces: &mut Space
 
 // ---- Calls are read in pieces; those that are ended are answered before more is waited for.
 
-// Answers the ended calls, and returns where the one begins that is not ended.
+// Answers the ended calls, and returns where the one begins that is not ended. `book_main` parts its text so too: a
+// function for the part before the last byte 10 would save a line in each, and each would still part it.
 fn answer_calls(rt: &impl Print, book: &mut [u8], calls: &[u8], spaces: &mut Spaces) -> usize
     ensures { result ≤ length calls.now }
 {
@@ -132,7 +127,7 @@ fn answer_piece(
     to - begun
 }
 
-// The end of input ends a call too.
+// The end of input ends a call too. The whole space is lent, as a call that fills it is too long.
 fn answer_end(
     rt: &(impl Print + Eprint),
     book: &mut [u8],
@@ -178,8 +173,8 @@ fn answer_all<R: Read>(
 }
 
 fn answer_input<R: Read>(rt: &(impl Print + Eprint), input: &mut R) -> io::Result<()> {
-    let mut book = book_space();
-    let mut calls = call_space();
+    let mut book: [u8; SIZE] = blank();
+    let mut calls: [u8; CALL] = blank();
     let mut spaces = Spaces::new();
     answer_all(rt, input, &mut book, &mut calls, &mut spaces)
 }
@@ -203,7 +198,8 @@ fn answer_named<R: Files + Print + Eprint>(rt: &R, path: &str) {
     }
 }
 
-// Answers the file that an argument names.
+// Answers the file that an argument names. A match, as the name may be too long or no text, and each failure is told.
+// This and `is_given` are not shared with the desk: a line at its `argument_count` says why.
 fn answer_argument<R: Env + Files + Print + Eprint>(rt: &R, i: usize) {
     let mut space = [0u8; 4096];
     match rt.arg(i, &mut space) {

@@ -58,12 +58,13 @@ pub(crate) fn decode(code: &[u8], text: &mut [u8]) -> usize
     ensures { result ≤ length text.new }
 {
     let mut code = code;
-    for i in 0..text.len() {
+    let len = text.len();
+    for (n, place) in text.iter_mut().enumerate() {
         let Some((byte, rest)) = first(code) else {
-            return i;
+            return n;
         };
-        text[i] = byte;
+        *place = byte;
         code = rest;
     }
-    text.len()
+    len
 }

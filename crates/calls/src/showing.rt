@@ -8,11 +8,7 @@ fn write(rt: &impl Print, bytes: &[u8]) {
     let _ = rt.write_all(bytes);
 }
 
-fn write_number(rt: &impl Print, n: usize) {
-    let _ = print!(rt; "{n}");
-}
-
-// The answer to a line, as the desk prints it.
+// The answer to a line, as the desk prints it. A printed answer is bytes, and `print!` takes text.
 pub(crate) fn show(rt: &impl Print, answer: Answer) {
     write_answer(rt, answer);
     write(rt, b"\n");
@@ -40,7 +36,9 @@ pub(crate) fn show_unknown(rt: &impl Print) {
 // The number of lines, or the refusal.
 pub(crate) fn show_batch(rt: &impl Print, answered: Result<usize, Refusal>) {
     match answered {
-        Ok(count) => write_number(rt, count),
+        Ok(count) => {
+            let _ = print!(rt; "{count}");
+        }
         Err(refusal) => write_answer(rt, Answer::Refused(refusal)),
     }
 }

@@ -18,7 +18,9 @@ pub const BLOCK: u16 = 32;
 
 // What a pass over a table knows of the places before: how many each depository has, and the used ones in chains. A
 // chain names a place by its number plus 1, and 0 is its end: an Option would double the bytes that are cleared for
-// every table.
+// every table, and to clear them is 13 % of the instructions of a line on the almost empty book (callgrind on
+// precheck_main), so that a line would cost about 1.13 times, where the bar is 1.02. The arrays are of a fixed size,
+// since the project's memory is fixed.
 #[derive(Drop)]
 pub struct Seen {
     pub counts: [u16; OWNERS],

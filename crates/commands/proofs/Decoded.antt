@@ -19,7 +19,9 @@ use Rattle.places.specs.declared.RestrictionType.{RestrictionType}
 use Rattle.places.specs.declared.Rule.{Rule}
 use Rattle.places.specs.declared.Row.{Row}
 use Rattle.places.specs.declared.Period.{Period}
-use Rattle.commands.specs.Asked.{asked_by, asked, row_on, period_on, what_of, row_beside, coded, command_on, or_question, letter_for, command_from}
+use Rattle.commands.specs.Asked.{asked_by, asked, what_of, or_question, letter_for}
+use Rattle.records.specs.declared.TypeKey.{TypeKey}
+use Rattle.records.specs.declared.RuleKey.{RuleKey}
 use Rattle.commands.specs.declared.Question.{Question}
 use Rattle.commands.specs.declared.What.{What}
 use Rattle.commands.specs.declared.Command.{Command}
@@ -41,11 +43,6 @@ module _ (v : List ℕ) (c : ℕ) where
   unfolding what_of command_of
   made_rule r n o s g e f h i j k = rw (e, f, h, i, j, k)
 
-  pub made_period : (p : Period) (k : ℕ)
-      → p ≡ record { csd = c; kind = k; number = v ! 3; code = v ! 4; first = v ! 5; last = v ! 6 }
-      → k ≡ v ! 2 % 256 → c ≡ v ! 0 % 256 → p ≡ period_on (v ! 0 % 256) (v ! 2) (v ! 3) (v ! 4) (v ! 5) (v ! 6)
-  made_period p k e f g = rw (e, f, g)
-
   pub made_question : (o : ℕ) (i d : Option Bool) → d ≡ wish_of (v ! 12) → i ≡ wish_of (v ! 11) → o ≡ v ! 2 % 256
       → c ≡ v ! 0 % 256
       → What.Ask (record { csd = c; day = v ! 1; object = o; role = v ! 3; movement = v ! 4; payment = v ! 5; transaction = v ! 6; currency = v ! 7; party = v ! 8; account = v ! 9; security = v ! 10 })
@@ -53,18 +50,6 @@ module _ (v : List ℕ) (c : ℕ) where
       ≡ what_of (v ! 0 % 256) (command_of letter_q v)
   unfolding what_of command_of
   made_question o i d g h e f = rw (g, h, e, f)
-
-  -- with a row beside
-  module _ (x : What) (z : Row) where
-    pub made : (w : Row) → z ≡ w → c ≡ v ! 0 % 256
-        → record { csd = c; day = v ! 1; what = x; row = z } ≡ command_on v x w
-    made w e f = rw (e, f)
-
-    pub made_row : (vs : List ℕ) (n o s : ℕ) → z ≡ record { csd = c; number = n; object = o; sequence = s; values = vs }
-        → s ≡ v ! 4 % 256 → o ≡ v ! 3 % 256 → n ≡ v ! 2 % 256 → c ≡ v ! 0 % 256
-        → record { csd = c; day = v ! 1; what = x; row = z }
-        ≡ command_on v x (row_on (v ! 0 % 256) (v ! 2) (v ! 3) (v ! 4) vs)
-    made_row vs n o s e f g h i = rw (e, f, g, h, i)
 
 -- ---- the match on the letter's byte
 
@@ -121,18 +106,13 @@ none_q n r =
     (passed n (shape_z ∷ shape_a ∷ shape_n ∷ shape_m ∷ shape_d ∷ shape_o ∷ shape_r ∷ shape_e ∷ shape_t ∷ []) (shape_q_wishes ∷ shape_q ∷ []) r)
     ∙ cases (has_letter (n ∷ []) shape_q) (λ e. rw e) (λ e. rw e)
 
--- the command has what its letter asks, and the row beside
-module _ (l : Letter) (v : List ℕ) (n : ℕ) (x : Command) (w : What)
-    (e : x ≡ command_on v w (row_beside (v ! 0 % 256) (command_of l v))) (f : w ≡ what_of (v ! 0 % 256) (command_of l v)) where
-  made_from : x ≡ command_from l v
-  unfolding coded
-  made_from = e ∙ ap (λ y. command_on v y (row_beside (v ! 0 % 256) (command_of l v))) f
+-- an arm has what its letter asks
+module _ (l : Letter) (v : List ℕ) (n c : ℕ) (w : What) (e : w ≡ what_of c (command_of l v)) where
+  pub arm : n ≡ letter_byte l → w ≡ what_of c (command_of (letter_for n) v)
+  arm g = rw (g, letter_for_lem l) e
 
-  pub arm : n ≡ letter_byte l → x ≡ command_from (letter_for n) v
-  arm g = rw (g, letter_for_lem l) made_from
-
-  pub last_arm : letter_for n ≡ l → x ≡ command_from (letter_for n) v
-  last_arm g = rw g made_from
+  pub last_arm : letter_for n ≡ l → w ≡ what_of c (command_of (letter_for n) v)
+  last_arm g = rw g e
 
 -- ---- refusal 5 of a command
 
@@ -142,17 +122,17 @@ module _ (c : Command) where
   unfolding wrong asked_by type_of
   wrong_t t e = rw e
 
-  pub never_wrong : ((x : ℕ) × (y : ℕ) × (z : ℕ) × (c.what ≡ What.EndType x y z))
-      ⊎ (((x : ℕ) × (c.what ≡ What.Reorder x))
-      ⊎ ((c.what ≡ What.DeleteRule)
-      ⊎ ((c.what ≡ What.AddRow) ⊎ ((c.what ≡ What.DeleteRow) ⊎ ((x : Period) × (c.what ≡ What.EndPeriod x))))))
+  pub never_wrong : ((k : TypeKey) × (x : ℕ) × (c.what ≡ What.EndType k x))
+      ⊎ (((k : RuleKey) × (x : ℕ) × (c.what ≡ What.Reorder k x))
+      ⊎ (((k : RuleKey) × (c.what ≡ What.DeleteRule k))
+      ⊎ (((w : Row) × (c.what ≡ What.AddRow w)) ⊎ (((w : Row) × (c.what ≡ What.DeleteRow w)) ⊎ ((x : Period) × (c.what ≡ What.EndPeriod x))))))
       → false ≡ wrong (asked c)
   unfolding wrong asked_by
-  never_wrong (inl (x, y, z, e)) = rw e
-  never_wrong (inr (inl (x, e))) = rw e
-  never_wrong (inr (inr (inl e))) = rw e
-  never_wrong (inr (inr (inr (inl e)))) = rw e
-  never_wrong (inr (inr (inr (inr (inl e))))) = rw e
+  never_wrong (inl (k, x, e)) = rw e
+  never_wrong (inr (inl (k, x, e))) = rw e
+  never_wrong (inr (inr (inl (k, e)))) = rw e
+  never_wrong (inr (inr (inr (inl (w, e))))) = rw e
+  never_wrong (inr (inr (inr (inr (inl (w, e)))))) = rw e
   never_wrong (inr (inr (inr (inr (inr (x, e)))))) = rw e
 
   pub wrong_r : (t : Rule) → c.what ≡ What.AddRule t → ltb t.last t.first ≡ wrong (asked c)

@@ -16,8 +16,7 @@ use Rattle.meaning.specs.declared.Wishes.{Wishes}
 use Rattle.meaning.proofs.Shapes.{Ranged, by_rows}
 use Rattle.meaning.proofs.Ranges.{holds_at}
 use Rattle.records.specs.Said.{type_of, rule_of, row_of, period_of}
-use Rattle.places.specs.declared.Row.{Row}
-use Rattle.commands.specs.Asked.{question_of, asked_by, asked, question_asked, question_on, what_of, row_beside, coded}
+use Rattle.commands.specs.Asked.{question_of, asked_by, asked, question_asked, question_on, what_of, coded}
 use Rattle.commands.specs.declared.Question.{Question}
 use Rattle.commands.specs.declared.What.{What}
 
@@ -81,28 +80,28 @@ abbrev pub as_meant : Option (Question × Wishes) → Option (M.Question × Wish
 as_meant None = None
 as_meant (Some (q, x)) = Some (question_of q, x)
 
-pub asked_question : (d : ℕ) (w : Row) (x : What) → question_in (asked_by d w x) ≡ as_meant (question_asked x)
+pub asked_question : (d : ℕ) (x : What) → question_in (asked_by d x) ≡ as_meant (question_asked x)
 unfolding asked_by
-asked_question d w (What.AddType t) = refl
-asked_question d w (What.EndType number object last) = refl
-asked_question d w (What.AddRule r) = refl
-asked_question d w (What.Reorder new) = refl
-asked_question d w What.DeleteRule = refl
-asked_question d w What.AddRow = refl
-asked_question d w What.DeleteRow = refl
-asked_question d w (What.AddPeriod p) = refl
-asked_question d w (What.EndPeriod p) = refl
-asked_question d w (What.Ask q x) = refl
+asked_question d (What.AddType t) = refl
+asked_question d (What.EndType k last) = refl
+asked_question d (What.AddRule r) = refl
+asked_question d (What.Reorder k new) = refl
+asked_question d (What.DeleteRule k) = refl
+asked_question d (What.AddRow w) = refl
+asked_question d (What.DeleteRow w) = refl
+asked_question d (What.AddPeriod p) = refl
+asked_question d (What.EndPeriod p) = refl
+asked_question d (What.Ask q x) = refl
 
 -- What the code's test for a question leaves asks no question.
 pub not_asked : (x : What) → ((q : Question) (w : Wishes) → x ≡ What.Ask q w → ⊥) → question_asked x ≡ None
 not_asked (What.AddType t) k = refl
-not_asked (What.EndType number object last) k = refl
+not_asked (What.EndType n last) k = refl
 not_asked (What.AddRule r) k = refl
-not_asked (What.Reorder new) k = refl
-not_asked What.DeleteRule k = refl
-not_asked What.AddRow k = refl
-not_asked What.DeleteRow k = refl
+not_asked (What.Reorder n new) k = refl
+not_asked (What.DeleteRule n) k = refl
+not_asked (What.AddRow w) k = refl
+not_asked (What.DeleteRow w) k = refl
 not_asked (What.AddPeriod p) k = refl
 not_asked (What.EndPeriod p) k = refl
 not_asked (What.Ask q x) k = absurd (k q x refl)
@@ -111,7 +110,7 @@ not_asked (What.Ask q x) k = absurd (k q x refl)
 pub question_same : (c d : ℕ) (k : M.Command) → Narrow d k → as_meant (as_on c (question_in k)) ≡ question_in k
 unfolding coded
 question_same c d k n =
-    ap as_meant (sym (question_coded c k)) ∙ sym (asked_question d (row_beside c k) (what_of c k))
+    ap as_meant (sym (question_coded c k)) ∙ sym (asked_question d (what_of c k))
     ∙ ap question_in (asked_coded c d k n)
 
 -- ---- the numbers of a letter's fields, each in its form's range

@@ -1,33 +1,18 @@
 // A line's command from its letter and numbers: the only code that knows where a number stands in a line.
 ghost use Rattle.std.specs.Prelude.{◌≡◌, ◌%◌};
-ghost use Rattle.meaning.specs.Forms.{letter_t, letter_r, letter_d, letter_m, letter_q};
-ghost use Rattle.meaning.specs.Records.{◌!◌, wish_of, command_of};
-ghost use Rattle.places.specs.Layout.{zero_row};
-ghost use Rattle.commands.specs.Asked.{period_on, what_of, coded, row_beside, command_on, letter_for};
+ghost use Rattle.meaning.specs.Forms.{letter_t, letter_r, letter_q};
+ghost use Rattle.meaning.specs.Records.{◌!◌, wish_of, row_of, command_of};
+ghost use Rattle.commands.specs.Asked.{type_key_on, rule_key_on, row_on, period_on, what_of, coded, letter_for};
 ghost use Rattle.commands.specs.declared.What.TheVariants.{AddType, AddRule};
 
 use crate::{Command, Question, What};
 use basics::low;
 use meaning::Wishes;
 use places::{Period, RestrictionType, Row, Rule};
+use records::{RuleKey, TypeKey};
 
-const T: u8 = b'T';
-
-const E: u8 = b'E';
-
-const R: u8 = b'R';
-
-const O: u8 = b'O';
-
-const D: u8 = b'D';
-
-const M: u8 = b'M';
-
-const N: u8 = b'N';
-
-const A: u8 = b'A';
-
-const Z: u8 = b'Z';
+// A function makes each record, where an impl of From cannot stand: the records are types of another crate, and the
+// numbers no type of this one. `ask_of` is of Q's numbers: a From of any sixteen would not say the letter.
 
 // What T puts in.
 fn type_of(v: [u32; 16]) -> RestrictionType
@@ -50,6 +35,37 @@ fn rule_of(v: [u32; 16]) -> Rule
         v[7],
         v[8],
     )
+}
+
+// The type that E ends.
+fn type_key_of(v: [u32; 16]) -> TypeKey
+    ensures { result ≡ type_key_on (v ! 2) (v ! 3) }
+{
+    TypeKey {
+        number: low(v[2]),
+        object: low(v[3]),
+    }
+}
+
+// The rule that O reorders and D deletes.
+fn rule_key_of(v: [u32; 16]) -> RuleKey
+    ensures { result ≡ rule_key_on (v ! 2) (v ! 3) (v ! 4) }
+{
+    RuleKey {
+        sequence: low(v[4]),
+        number: low(v[2]),
+        object: low(v[3]),
+    }
+}
+
+// The row that M puts in and N deletes.
+fn row_of(v: [u32; 16]) -> Row
+    ensures { let w = row_of v in result ≡ row_on (v ! 0 % 256) w.type w.object w.sequence w.values }
+{
+    let values = [
+        v[5], v[6], v[7], v[8], v[9], v[10], v[11], v[12], v[13], v[14],
+    ];
+    Row::new(low(v[0]), low(v[2]), low(v[3]), low(v[4]), values)
 }
 
 // The period that A puts in and Z ends.
@@ -96,61 +112,32 @@ fn ask_of(v: [u32; 16]) -> What
     What::Ask(question, wishes)
 }
 
-// The command of a line without a row.
-fn plain(v: [u32; 16], what: What) -> Command
-    ensures { result ≡ command_on v what zero_row }
+// What a line of that letter and numbers asks. A byte and no Shape: `command_of` takes any letter, and a Shape would
+// ask more of its callers. Each arm takes other fields.
+fn what_of(letter: u8, v: [u32; 16]) -> What
+    ensures { result ≡ what_of (v ! 0 % 256) (command_of (letter_for letter) v) }
+{
+    match letter {
+        b'T' => What::AddType(type_of(v)),
+        b'E' => What::EndType(type_key_of(v), v[4]),
+        b'R' => What::AddRule(rule_of(v)),
+        b'O' => What::Reorder(rule_key_of(v), low(v[5])),
+        b'D' => What::DeleteRule(rule_key_of(v)),
+        b'M' => What::AddRow(row_of(v)),
+        b'N' => What::DeleteRow(row_of(v)),
+        b'A' => What::AddPeriod(period_of(v)),
+        b'Z' => What::EndPeriod(period_of(v)),
+        _ => ask_of(v),
+    }
+}
+
+// What a line of that letter and numbers commands. What is no letter of the table is taken for Q.
+pub fn command_of(letter: u8, v: [u32; 16]) -> Command
+    ensures { result ≡ coded (v ! 0 % 256) (v ! 1) (command_of (letter_for letter) v) }
 {
     Command {
         csd: low(v[0]),
         day: v[1],
-        what,
-        row: Row::default(),
-    }
-}
-
-// With the rule of an O or D line: the key of a row without values.
-fn with_key(v: [u32; 16], what: What) -> Command
-    ensures { result ≡ command_on v what (row_beside (v ! 0 % 256) (command_of letter_d v)) }
-{
-    let csd = low(v[0]);
-    Command {
-        csd,
-        day: v[1],
-        what,
-        row: Row::new(csd, low(v[2]), low(v[3]), low(v[4]), [0; 10]),
-    }
-}
-
-// With the row of an M or N line.
-fn with_row(v: [u32; 16], what: What) -> Command
-    ensures { result ≡ command_on v what (row_beside (v ! 0 % 256) (command_of letter_m v)) }
-{
-    let csd = low(v[0]);
-    let values = [
-        v[5], v[6], v[7], v[8], v[9], v[10], v[11], v[12], v[13], v[14],
-    ];
-    Command {
-        csd,
-        day: v[1],
-        what,
-        row: Row::new(csd, low(v[2]), low(v[3]), low(v[4]), values),
-    }
-}
-
-// What a line of that letter and numbers asks. What is no letter of the table is taken for Q.
-pub fn command_of(letter: u8, v: [u32; 16]) -> Command
-    ensures { result ≡ coded (v ! 0 % 256) (v ! 1) (command_of (letter_for letter) v) }
-{
-    match letter {
-        T => plain(v, What::AddType(type_of(v))),
-        E => plain(v, What::EndType(low(v[2]), low(v[3]), v[4])),
-        R => plain(v, What::AddRule(rule_of(v))),
-        O => with_key(v, What::Reorder(low(v[5]))),
-        D => with_key(v, What::DeleteRule),
-        M => with_row(v, What::AddRow),
-        N => with_row(v, What::DeleteRow),
-        A => plain(v, What::AddPeriod(period_of(v))),
-        Z => plain(v, What::EndPeriod(period_of(v))),
-        _ => plain(v, ask_of(v)),
+        what: what_of(letter, v),
     }
 }

@@ -11,8 +11,11 @@ ghost use Rattle.commands.specs.Asked.{asked};
 pub use letters::command_of;
 use meaning::Wishes;
 use places::{Period, RestrictionType, Row, Rule};
+use records::{RuleKey, TypeKey};
 
-// A question. Role is the instructing party's type; an empty field is 0.
+// A question. Role is the instructing party's type; an empty field is 0, and role, movement and payment are numbers, as
+// in a row and a kept instruction, with whose numbers they are compared as they lie, and in the written meaning. It has
+// a depository and a day of its own, since it is judged without a command too, where a kept instruction asks it.
 #[derive(Clone, Copy)]
 pub struct Question {
     pub csd: u8,
@@ -28,32 +31,30 @@ pub struct Question {
     pub security: u32,
 }
 
-// What is asked, beside the depository, the day and the row of a command.
+// What is asked, beside the depository and the day of a command.
 #[derive(Clone, Copy)]
 pub enum What {
     AddType(RestrictionType),
-    // Type, object, new last day.
-    EndType(u8, u8, u32),
+    // The new last day.
+    EndType(TypeKey, u32),
     AddRule(Rule),
-    // The new sequence of the rule that the row's key names.
-    Reorder(u8),
-    // The rule that the row's key names.
-    DeleteRule,
-    AddRow,
-    DeleteRow,
+    // The new sequence.
+    Reorder(RuleKey, u8),
+    DeleteRule(RuleKey),
+    AddRow(Row),
+    DeleteRow(Row),
     AddPeriod(Period),
-    // The period whose last day is the new one.
+    // The period whose last day is the new one: a line has the same fields as for AddPeriod.
     EndPeriod(Period),
     Ask(Question, Wishes),
 }
 
-// A command of a depository. The row is all 0 where none is meant.
+// A command of a depository.
 #[derive(Clone, Copy)]
 pub struct Command {
     pub csd: u8,
     pub day: u32,
     pub what: What,
-    pub row: Row,
 }
 
 // What no single field shows of refusal 5. The tests are joined by `&` and `|`: an arm is then one value for its proof.
@@ -80,11 +81,11 @@ pub fn is_wrong(c: Command) -> bool
                 !(movement & payment)
             }
         }
-        What::EndType(_, _, _)
-        | What::Reorder(_)
-        | What::DeleteRule
-        | What::AddRow
-        | What::DeleteRow
+        What::EndType(_, _)
+        | What::Reorder(_, _)
+        | What::DeleteRule(_)
+        | What::AddRow(_)
+        | What::DeleteRow(_)
         | What::EndPeriod(_) => false,
     }
 }

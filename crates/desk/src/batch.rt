@@ -1,10 +1,12 @@
 // 'batch CSD FILE': a file is read whole and sent as one batch of a depository to an emptied book (request a).
 ghost use Rattle.std.specs.Prelude.{◌≤◌, length, IfOk};
 
-use crate::{Failure, Source, argument, book_space, failed, file_name, write_line, wrong};
+use crate::{Failure, Source, argument, failed, file_name, write_line, wrong};
 use batches::{MOST, WIDTH, submit_batch};
 use input::read_full;
+use marks::blank;
 use meaning::{Answer, Refusal};
+use places::SIZE;
 use std::env::Env;
 use std::fs::File;
 use std::io;
@@ -15,16 +17,7 @@ use std::rt::Files;
 
 const TEXT: usize = 1048576;
 
-fn text_space() -> [u8; TEXT] {
-    [0u8; TEXT]
-}
-
-fn too_large(rt: &impl Eprint) -> Failure {
-    let _ = eprintln!(rt; "precheck: batch: the file has more than 1048575 bytes");
-    Failure::Failed
-}
-
-// Reads up to the end of input.
+// Reads up to the end of input. A match, since two of the three outcomes of one call are named in different words.
 fn read_whole<R: Read>(
     rt: &impl Eprint,
     source: &mut Source<R>,
@@ -33,7 +26,9 @@ fn read_whole<R: Read>(
     ensures { IfOk result (λ n. n ≤ length text.new) }
 {
     match read_full(&mut source.reader, text) {
-        Ok(n) if n == text.len() => Err(too_large(rt)),
+        Ok(n) if n == text.len() => {
+            Err(failed(rt, "batch", "the file has more than 1048575 bytes"))
+        }
         Ok(n) => Ok(n),
         Err(why) => Err(failed(rt, source.name, why)),
     }
@@ -61,7 +56,7 @@ fn print_refusal(rt: &(impl Print + Eprint), refusal: Refusal) -> Result<(), Fai
 // ---- A batch
 
 fn send(rt: &(impl Print + Eprint), csd: u8, text: &[u8]) -> Result<(), Failure> {
-    let mut book = book_space();
+    let mut book: [u8; SIZE] = blank();
     // A book of the exact size is never refused.
     let _ = precheck::empty(&mut book);
     let mut answers = [0u8; MOST * WIDTH];
@@ -76,7 +71,7 @@ fn send_input<R: Read + Drop>(
     csd: u8,
     mut source: Source<R>,
 ) -> Result<(), Failure> {
-    let mut text = text_space();
+    let mut text: [u8; TEXT] = blank();
     let n = read_whole(rt, &mut source, &mut text)?;
     send(rt, csd, &text[..n])
 }

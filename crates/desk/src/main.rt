@@ -10,9 +10,10 @@ ghost use Rattle.std.specs.Prelude.{◌≡◌, ◌≤◌, length, OnOk};
 ghost use Rattle.desk.specs.Loop.{Gave, Behind, Hands, Ends, Input, OneInput};
 
 use arrayvec::ArrayString;
-use keler::{Dates, keler_line};
+use keler::{KelerSet, keler_line};
 use line::read_line;
 use lines::{ANSWER_BYTES, Desk};
+use marks::blank;
 use meaning::Refusal;
 use places::SIZE;
 use std::env::{Env, FillError};
@@ -50,7 +51,8 @@ fn write_failed(rt: &impl Eprint, why: io::Error) -> Failure {
     failed(rt, "writing to standard output", why)
 }
 
-// Writes to standard output.
+// Writes to standard output. Answers and lines come as bytes from proved functions, and are written as they are here
+// and in what follows: `print!` takes text, so each would be tested first, and what to do where it is none be decided.
 fn write_out(rt: &(impl Print + Eprint), bytes: &[u8]) -> Result<(), Failure> {
     rt.write_all(bytes).map_err(|why| write_failed(rt, why))
 }
@@ -95,7 +97,7 @@ fn answered_by(
 }
 
 impl<'a, R: Read> Source<'a, R> {
-    // Reads once behind the bytes held.
+    // Reads once behind the bytes held. The whole text is lent, as the contract says that what is held stays.
     fn read_behind(
         &mut self,
         rt: &impl Eprint,
@@ -119,11 +121,6 @@ const TEXT: usize = 8192;
 // The answers to a text take at most so many bytes for each of its bytes.
 const ANSWERS: usize = ANSWER_BYTES * TEXT;
 
-// Large arrays are made in functions of their own.
-fn book_space() -> [u8; SIZE] {
-    [0u8; SIZE]
-}
-
 // What an input is answered in: a book, a text of which some bytes are held, and the answers to it.
 #[derive(Drop)]
 struct Spaces {
@@ -135,9 +132,9 @@ struct Spaces {
 impl Spaces {
     fn new() -> Spaces {
         Spaces {
-            book: book_space(),
-            text: [0u8; TEXT],
-            out: [0u8; ANSWERS],
+            book: blank(),
+            text: blank(),
+            out: blank(),
         }
     }
 
@@ -266,11 +263,10 @@ fn wrong_set(rt: &impl Eprint, refusal: Refusal) -> Failure {
 fn print_line(
     rt: &(impl Print + Eprint),
     number: u32,
-    csd: u32,
-    dates: Dates,
+    set: KelerSet,
     space: &mut [u8],
 ) -> Result<(), Failure> {
-    match keler_line(number, csd, dates, space) {
+    match keler_line(number, set, space) {
         Ok(n) => write_line(rt, &space[..n.min(space.len())]),
         Err(refusal) => Err(wrong_set(rt, refusal)),
     }
@@ -282,10 +278,15 @@ fn print_set(rt: &(impl Env + Print + Eprint)) -> Result<(), Failure> {
         return Err(wrong_set(rt, Refusal::BadField));
     };
     let [csd, day, _, _, _, first, last, ..] = line.values;
-    let dates = Dates { day, first, last };
+    let set = KelerSet {
+        csd,
+        day,
+        first,
+        last,
+    };
     let mut space = [0u8; 80];
     for number in 1..56 {
-        print_line(rt, number, csd, dates, &mut space)?;
+        print_line(rt, number, set, &mut space)?;
     }
     Ok(())
 }
@@ -299,7 +300,9 @@ fn usage(rt: &impl Eprint) -> Failure {
     )
 }
 
-// How many arguments the program was started with, its own name among them.
+// How many arguments the program was started with, its own name among them. `calls` asks the same of one index, and has
+// the failures of `file_name` too: std's `arg` promises only how much it writes, so public functions of both in `input`
+// would have no contract that fixes what they answer.
 fn argument_count(rt: &impl Env) -> usize {
     let mut space = [0u8; 1];
     for i in 0..usize::MAX {
@@ -351,6 +354,7 @@ fn answer_arguments<R: Env + Files + io::Input + Print + Eprint>(
     Ok(())
 }
 
+// A match on words: each takes other arguments, and answers in its own way.
 fn work<R: Env + Files + io::Input + Print + Eprint>(rt: &R) -> Result<(), Failure> {
     let count = argument_count(rt);
     let mut space = [0u8; 6];

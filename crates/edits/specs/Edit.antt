@@ -1,8 +1,8 @@
 -- The nine edits on the bytes of the shared book, over the meaning's command. Assumes nothing.
 -- The papers leave the place of a record free: a record more goes to a place that is free, one that is named is changed
 -- where it stands.
-use Rattle.std.specs.Prelude.{ℕ, cond, List, ltb}
-use Rattle.tables.specs.Table.{store}
+use Rattle.std.specs.Prelude.{ℕ, zero, suc, ◌≡◌, ◌<◌, ◌≤◌, Bool, true, false, cond, List, ltb}
+use Rattle.tables.specs.Table.{Table, hit, store}
 use Rattle.meaning.specs.Records as M
 use Rattle.places.specs.Layout.{type_at, rule_at, zero_rule, row_places, zero_row, period_at}
 use Rattle.places.specs.declared.RestrictionType.{RestrictionType}
@@ -10,6 +10,7 @@ use Rattle.places.specs.declared.Rule.{Rule}
 use Rattle.places.specs.declared.Row.{Row}
 use Rattle.places.specs.declared.Period.{Period}
 use Rattle.records.specs.Tables.{of_types, of_rules, of_rows, of_periods, table}
+use Rattle.records.specs.Keyed.{period_key}
 use Rattle.records.specs.declared.TypeAsk.TheVariants as Types
 use Rattle.records.specs.declared.RuleAsk.TheVariants as Rules
 use Rattle.records.specs.declared.RowAsk.TheVariants as Rows
@@ -68,6 +69,22 @@ free_period b = period_place b 0 Periods.Any
 abbrev pub stored : {P : Type 0} → ℕ → (List ℕ → ℕ → P → List ℕ) → List ℕ → ℕ → P → List ℕ
 stored places put b i r = cond (ltb i places) (put b i r) b
 
+-- the record at place n is stored as what a call makes of it; nothing is where there is no such place
+pub record Changed {P : Type 0} (places : ℕ) (at : List ℕ → ℕ → P) (put : List ℕ → ℕ → P → List ℕ) (made : P → P → Type 0) (b : List ℕ) (n : ℕ) (b' : List ℕ) : Type 0 where
+  pub there : n < places → (r : P) × (made (at b n) r × (b' ≡ put b n r))
+  pub nowhere : places ≤ n → b' ≡ b
+
+-- place i after a pass came by: a record of depository a that is as asked is stored as what a call makes of it and of
+-- the book as it is there; and the places below n one after the other
+module _ {P R : Type 0} (t : Table P R) (at : List ℕ → ℕ → P) (put : List ℕ → ℕ → P → List ℕ) (a : ℕ) (q : R → Bool) (made : List ℕ → P → P → Type 0) where
+  pub record ChangedAt (b : List ℕ) (i : ℕ) (b' : List ℕ) : Type 0 where
+    pub there : hit t b a q i ≡ true → (r : P) × (made b (at b i) r × (b' ≡ put b i r))
+    pub elsewhere : hit t b a q i ≡ false → b' ≡ b
+
+  unfoldable pub ChangedEach : List ℕ → ℕ → List ℕ → Type 0
+  ChangedEach b zero b' = b' ≡ b
+  ChangedEach b (suc n) b' = (c : List ℕ) × (ChangedEach b n c × ChangedAt c n b')
+
 unfoldable pub store_type : List ℕ → ℕ → RestrictionType → List ℕ
 store_type b i r = store (table of_types) b i r
 
@@ -84,16 +101,16 @@ store_period b i r = store (table of_periods) b i r
 
 -- E and Z
 unfoldable pub ended_type : List ℕ → ℕ → ℕ → ℕ → ℕ → List ℕ
-ended_type b c n o last = let i = type_place b c (Types.Named n o) in store_type b i (type_ended last (type_at b i))
+ended_type b c n o last = let i = type_place b c (Types.Named (record { number = n; object = o })) in store_type b i (type_ended last (type_at b i))
 
 unfoldable pub ended_period : List ℕ → Period → List ℕ
 ended_period b p =
-    let i = period_place b p.csd (Periods.Named p.kind p.number p.code p.first) in
+    let i = period_place b p.csd (Periods.Named (period_key p)) in
     store_period b i (period_ended p.last (period_at b i))
 
 -- the rule that is named
 abbrev pub rule_named : List ℕ → ℕ → ℕ → ℕ → ℕ → ℕ
-rule_named b c n o s = rule_place b c (Rules.Named n o s)
+rule_named b c n o s = rule_place b c (Rules.Named (record { sequence = s; number = n; object = o }))
 
 -- D and N
 unfoldable pub deleted_rule : List ℕ → ℕ → ℕ → ℕ → ℕ → List ℕ

@@ -5,7 +5,8 @@ ghost use Rattle.std.specs.Prelude.{◌+◌, ◌≡◌, drop};
 ghost use Rattle.meaning.specs.Text.{place};
 ghost use Rattle.fields.specs.Cut.{Cuts};
 
-// The index of the first c from an index on; the end, where there is none.
+// The index of the first c from an index on; the end, where there is none. The whole text is lent here and to `cut`:
+// both answer an index in it, and with the rest alone each caller would add what stands in front.
 pub fn find(s: &[u8], at: usize, c: u8) -> usize
     ensures { result ≡ at + place c (drop at s.now) }
 {
@@ -23,7 +24,8 @@ pub fn cut(line: &[u8], at: usize) -> usize
     find(line, at, b',')
 }
 
-// A lent line, and the index where the last field that was read ended: its comma, or the end of the line.
+// A lent line, and the index where the last field that was read ended: its comma, or the end of the line. By hand and
+// not by `split`: document 01 names a reader that holds the lent line and a position, over a field cutter.
 #[derive(Drop)]
 pub struct LineReader<'a> {
     line: &'a [u8],

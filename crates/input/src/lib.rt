@@ -6,7 +6,8 @@ ghost use Rattle.std.specs.Prelude.{◌≤◌, length, IfOk};
 use std::io;
 use std::io::Read;
 
-// Reads until the text is full or the input ends, and returns how many bytes it put at the text's start.
+// Reads until the text is full or the input ends, and returns how many bytes it put at the text's start. A proved loop
+// has to end, so it counts its turns up to a number that no input uses up.
 pub fn read_full<R: Read>(input: &mut R, text: &mut [u8]) -> io::Result<usize>
     ensures { IfOk result (λ n. n ≤ length text.new) }
 {

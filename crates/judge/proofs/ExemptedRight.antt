@@ -1,11 +1,8 @@
 -- Over a sound lone book, the types exempted by a scope are those of the lone book in which only the rules that count
 -- are, as the written meaning says.
-use Prim.Native.Nat.{ℕ}
-use mathlib.Core.Path.{◌≡◌, ap, sym, ◌∙◌, fun_ext}
-use mathlib.Core.Bool.{Bool, true, ◌&&◌, and_comm}
-use mathlib.Core.List.{List}
-use native.Mathlib.Omega.{arith}
-use lib.Dec.{eqb}
+use Rattle.std.proofs.Common.{ℕ, ◌≡◌, ap, sym, ◌∙◌, Bool, true, ◌&&◌, List, arith, eqb}
+use mathlib.Core.Path.{fun_ext}
+use mathlib.Core.Bool.{and_comm}
 use Rattle.tables.specs.Count.{has}
 use Rattle.tables.proofs.Lists.{has_among}
 use Rattle.tables.proofs.Below.{any_same, has_lone}

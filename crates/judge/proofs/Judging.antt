@@ -1,9 +1,5 @@
 -- The stages, one by what the stages before it found.
-use Prim.Native.Nat.{ℕ}
-use mathlib.Core.Path.{◌≡◌, refl, ◌∙◌}
-use mathlib.Core.Bool.{Bool, true, false}
-use mathlib.Core.List.{List}
-use lib.ListN.{length}
+use Rattle.std.proofs.Common.{ℕ, ◌≡◌, refl, ◌∙◌, Bool, true, false, List}
 use Rattle.tables.specs.Keyed.{marked}
 use Rattle.tables.proofs.Keying.{keyed_marks}
 use Rattle.meaning.specs.Judging.{judged}
@@ -34,50 +30,47 @@ by_new b q marks rows m = keyed_marks _ _ _ _ _ _ rows rule_places rule_places m
 
 -- ---- every rule counts, and no type is passed over
 
-pub by_stages : (b : List ℕ) (q : Question) (n : ℕ) (rows none : List ℕ) (s : Scope) (signs : ℕ → Bool) (named : ℕ → ℕ)
-    (r : Verdict) → r ≡ verdict (rules_matched b q (marked rows)) named
-    → named ≡ types_named b q (type_passed s (marked none)) signs → s ≡ whole → marked none ≡ none_passed
-    → signs ≡ signs_matched b q (marked rows) → RowsMarked n b q (codes_borne b q) rows → n ≡ rule_keys
+pub by_stages : (b : List ℕ) (q : Question) (rows : List ℕ) (s : Scope) (passed : ℕ → Bool) (signs : ℕ → Bool) (r : Verdict)
+    → r ≡ verdict (rules_matched b q (marked rows)) (types_named b q (type_passed s passed) signs) → s ≡ whole
+    → passed ≡ none_passed → signs ≡ signs_matched b q (marked rows) → RowsMarked rule_keys b q (codes_borne b q) rows
     → (r ≡ judged_by b q) × (sound_lone (lone_book q.csd b) ≡ true → r ≡ judged (lone_book q.csd b) (question_of q))
 unfolding judged_by type_passed
-by_stages b q n rows none s signs named r e en ew ep es er el = (found, λ s. found ∙ judged_right b q s)
+by_stages b q rows s passed signs r e ew ep es er = (found, λ s. found ∙ judged_right b q s)
   where
     rows_found : marked rows ≡ rows_matched b q (codes_borne b q)
-    rows_found = by_rows b q (codes_borne b q) rows (rw el at er)
+    rows_found = by_rows b q (codes_borne b q) rows er
 
     found : r ≡ judged_by b q
-    found = e ∙ rw (en, ew, ep, es, rows_found)
+    found = e ∙ rw (ew, ep, es, rows_found)
 
 -- ---- by a scope
 
-pub fresh_rows : (b : List ℕ) (q : Question) (n : ℕ) (rows t₀ t : List ℕ) (fresh : Bool)
-    → NewMarked (length t₀) b q (types_begun b q) (marked rows) t → RowsMarked n b q (codes_borne b q) rows → n ≡ rule_keys
-    → length t₀ ≡ rule_keys → fresh ≡ true → marked t ≡ rows_within b q fresh
+pub fresh_rows : (b : List ℕ) (q : Question) (rows t : List ℕ) (fresh : Bool)
+    → NewMarked rule_keys b q (types_begun b q) (marked rows) t → RowsMarked rule_keys b q (codes_borne b q) rows → fresh ≡ true
+    → marked t ≡ rows_within b q fresh
 unfolding rows_within
-fresh_rows b q n rows t₀ t fresh m er el et ef =
-    by_new b q (marked rows) t (rw et at m)
-    ∙ rw (ef, by_rows b q (codes_borne b q) rows (rw el at er))
+fresh_rows b q rows t fresh m er ef =
+    by_new b q (marked rows) t m ∙ rw (ef, by_rows b q (codes_borne b q) rows er)
 
-pub all_rows : (b : List ℕ) (q : Question) (t₀ t : List ℕ) (fresh : Bool) → RowsMarked (length t₀) b q (codes_borne b q) t
-    → length t₀ ≡ rule_keys → fresh ≡ false → marked t ≡ rows_within b q fresh
+pub all_rows : (b : List ℕ) (q : Question) (t : List ℕ) (fresh : Bool) → RowsMarked rule_keys b q (codes_borne b q) t
+    → fresh ≡ false → marked t ≡ rows_within b q fresh
 unfolding rows_within
-all_rows b q t₀ t fresh m et ef = by_rows b q (codes_borne b q) t (rw et at m) ∙ rw ef
+all_rows b q t fresh m ef = by_rows b q (codes_borne b q) t m ∙ rw ef
 
 module _ (b : List ℕ) (q : Question) (s : Scope) (passed : ℕ → Bool) (marks : ℕ → Bool) where
   -- the verdict and the table of types exempted, each for any bytes and as it is meant
-  pub by_scope : (signs : ℕ → Bool) (named : ℕ → ℕ) (v : Verdict) (x : List ℕ) → marked x ≡ types_exempted b q signs
-      → v ≡ verdict (rules_matched b q marks) named → named ≡ types_named b q (type_passed s passed) signs
-      → signs ≡ signs_matched b q marks → marks ≡ rows_within b q s.fresh
+  pub by_scope : (signs : ℕ → Bool) (v : Verdict) (x : List ℕ) → marked x ≡ types_exempted b q signs
+      → v ≡ verdict (rules_matched b q marks) (types_named b q (type_passed s passed) signs) → signs ≡ signs_matched b q marks → marks ≡ rows_within b q s.fresh
       → (v ≡ judged_within b q s passed)
       × ((marked x ≡ exempted_within b q s)
       × ((sound_lone (lone_book q.csd b) ≡ true → v ≡ judged (lone_within b q s passed) (question_of q))
       × (sound_lone (lone_book q.csd b) ≡ true → marked x ≡ exempted (lone_counted b q s) (question_of q))))
   unfolding judged_within exempted_within verdict_by
-  by_scope signs named v x ex ev en es em =
+  by_scope signs v x ex ev es em =
       (found, (exempt, (λ z. found ∙ judged_within_lem b q s passed z, λ z. exempt ∙ exempted_within_lem b q s z)))
     where
       found : v ≡ judged_within b q s passed
-      found = ev ∙ rw (en, es, em)
+      found = ev ∙ rw (es, em)
 
       exempt : marked x ≡ exempted_within b q s
       exempt = ex ∙ rw (es, em)

@@ -1,12 +1,7 @@
 -- Over a sound lone book, the rules that match by a table of marks are those of the filtered lone book that apply, as
 -- the written meaning says.
-use Prim.Native.Nat.{ℕ, ◌<◌}
-use mathlib.Core.Path.{◌≡◌, refl, ap, sym, ◌∙◌}
-use mathlib.Core.Bool.{Bool, true, false, ◌&&◌, cond, and-true, and-false}
-use mathlib.Core.List.{List}
-use native.Mathlib.Omega.{arith}
-use lib.Dec.{eqb}
-use borrow.Author.Tests.{eqb-true}
+use Rattle.std.proofs.Common.{ℕ, ◌<◌, ◌≡◌, refl, ap, sym, ◌∙◌, Bool, true, false, ◌&&◌, cond, List, arith, eqb, eqb-true}
+use mathlib.Core.Bool.{and-true, and-false}
 use Rattle.tables.specs.Count.{has}
 use Rattle.tables.specs.Below.{any_below}
 use Rattle.tables.proofs.Counts.{cases, ands}

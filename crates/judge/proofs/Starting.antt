@@ -1,11 +1,8 @@
 -- The scopes by which the commands of pending instructions judge (document 02, request d): the whole one by which S
 -- does, and that by which the start of a day meets a kept instruction.
-use Prim.Native.Nat.{ℕ}
-use mathlib.Core.Path.{◌≡◌, refl, ap, ap₂, ◌∙◌, fun_ext}
-use mathlib.Core.Bool.{Bool, true, ◌&&◌, ◌||◌, not, cond, and-true, and-false, or-false}
-use mathlib.Core.List.{List}
-use lib.Dec.{eqb}
-use borrow.Author.Tests.{eqb-true}
+use Rattle.std.proofs.Common.{ℕ, ◌≡◌, refl, ap, ap₂, ◌∙◌, Bool, true, ◌&&◌, ◌||◌, not, cond, List, eqb, eqb-true}
+use mathlib.Core.Path.{fun_ext}
+use mathlib.Core.Bool.{and-true, and-false, or-false}
 use Rattle.tables.proofs.Counts.{cases}
 use Rattle.meaning.specs.Records as M
 use Rattle.meaning.specs.Records.{validation_hold, party_hold}

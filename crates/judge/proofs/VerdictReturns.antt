@@ -1,47 +1,50 @@
--- What the returns of the functions on rules, types and the verdict leave to show.
-use Prim.Native.Nat.{ℕ, zero, suc}
-use mathlib.Core.Path.{◌≡◌, refl, ap, sym, ◌∙◌}
-use mathlib.Core.Bool.{Bool, true, false}
-use mathlib.Core.List.{[], ◌∷◌}
-use lib.Dec.{eqb}
-use borrow.Author.Tests.{ne_eqb}
-use Rattle.tables.specs.Keyed.{marked}
+-- What the returns of the functions on types and the verdict leave to show.
+use Rattle.std.proofs.Common.{ℕ, ◌≡◌, refl, ap, sym, ◌∙◌, Bool, true, false, cond, eqb, Option, Some, None, is_some, unwrap_or}
+use mathlib.Core.Bool.{true≢false}
+use Rattle.tables.proofs.Counts.{cases}
 use Rattle.meaning.specs.Records.{rejection, validation_hold, party_hold}
 use Rattle.meaning.specs.Judging.{by}
 use Rattle.meaning.specs.declared.Deciding.{Deciding}
 use Rattle.judge.specs.Stages.{first_rule, decided, verdict}
 
--- a table of one entry that is no mark
-pub none_marked : (k : ℕ) → marked (0 ∷ []) k ≡ false
-none_marked zero = refl
-none_marked (suc k) = refl
-
--- the deciding rule of a type, by a table of marks
-pub deciding_by : (marks rules : ℕ → Bool) (f : ℕ) → f ≡ first_rule marks → marks ≡ rules → f ≡ first_rule rules
-deciding_by marks rules f e m = e ∙ ap first_rule m
-
 module _ (rules : ℕ → ℕ → Bool) where
-  pub decided_none : (number : ℕ) → number ≡ 0 → by 0 0 ≡ decided rules number
+  by_number : (n : ℕ) → decided rules n ≡ cond (eqb n 0) None (Some (by n (first_rule (rules n))))
   unfolding decided
-  decided_none number e = rw e
+  by_number n = refl
 
-  pub decided_some : (number f : ℕ) → f ≡ first_rule (rules number) → (number ≡ 0 → ⊥)
-      → by number f ≡ decided rules number
-  unfolding decided
-  decided_some number f e d = rw (e, ne_eqb number 0 d)
+  -- ---- of the type o that an entry n of the table names
 
-  -- the verdict: n, h and k are named for rejection, validation hold and party hold
-  module _ (named : ℕ → ℕ) (n : ℕ) (en : n ≡ named rejection) where
-    pub verdict_rejected : (d : Deciding) → d ≡ decided rules n → (n ≡ 0 → ⊥)
-        → record { rejected = true; rejection = d; validation = by 0 0; party = by 0 0 } ≡ verdict rules named
+  pub decided_none : (n : ℕ) (o : Option ℕ) → o ≡ cond (eqb n 0) None (Some n) → o ≡ None → None ≡ decided rules n
+  decided_none n o e i =
+      cases (eqb n 0)
+      (λ t. rw (by_number n, t))
+      (λ t. absurd (true≢false (sym (ap is_some (rw t at e)) ∙ ap is_some i)))
+
+  pub decided_some : (n m f : ℕ) (o : Option ℕ) → f ≡ first_rule (rules m) → o ≡ cond (eqb n 0) None (Some n) → o ≡ Some m
+      → Some (by m f) ≡ decided rules n
+  decided_some n m f o ef e i =
+      cases (eqb n 0)
+      (λ t. absurd (true≢false (sym (ap is_some i) ∙ ap is_some (rw t at e))))
+      (λ t.
+      let k : n ≡ m = ap (λ x. unwrap_or x 0) (sym (rw t at e) ∙ i) in
+      rw (by_number n, t, ef) (ap (λ x. Some (by x (first_rule (rules x)))) (sym k)))
+
+  -- ---- the verdict: d is decided for rejection, h and k for the holds
+
+  module _ (named : ℕ → ℕ) (d : Option Deciding) (e : d ≡ decided rules (named rejection)) where
+    pub verdict_rejected : is_some d ≡ true → record { rejection = d; validation = None; party = None } ≡ verdict rules named
     unfolding verdict decided
-    verdict_rejected d e z =
-        let s : eqb (named rejection) 0 ≡ false = ne_eqb (named rejection) 0 (λ y. z (en ∙ y)) in
-        rw (e ∙ ap (decided rules) en, s)
+    verdict_rejected i =
+        cases (eqb (named rejection) 0)
+        (λ t. let f : d ≡ None = e ∙ by_number (named rejection) ∙ rw t in absurd (true≢false (sym i ∙ ap is_some f)))
+        (λ t. rw (e, t))
 
-    pub verdict_accepted : (h k : ℕ) (dh dk : Deciding) → dk ≡ decided rules k → dh ≡ decided rules h → k ≡ named party_hold
-        → h ≡ named validation_hold → n ≡ 0
-        → record { rejected = false; rejection = by 0 0; validation = dh; party = dk } ≡ verdict rules named
+    pub verdict_accepted : (h k : Option Deciding) → is_some d ≡ false → h ≡ decided rules (named validation_hold)
+        → k ≡ decided rules (named party_hold) → record { rejection = None; validation = h; party = k } ≡ verdict rules named
     unfolding verdict decided
-    verdict_accepted h k dh dk edk edh ek eh z =
-        let s : named rejection ≡ 0 = sym en ∙ z in rw (s, edk, edh, ek, eh)
+    verdict_accepted h k i eh ek =
+        cases (eqb (named rejection) 0)
+        (λ t. rw (eh, ek, t))
+        (λ t.
+        let f : d ≡ Some (by (named rejection) (first_rule (rules (named rejection)))) = e ∙ by_number (named rejection) ∙ rw t in
+        absurd (true≢false (sym (ap is_some f) ∙ i)))

@@ -1,12 +1,7 @@
 -- Over a sound lone book, what is judged by the book's bytes is the written meaning's verdict; by a scope, over the
 -- lone book in which only what the scope has is left.
-use Prim.Native.Nat.{ℕ, zero, suc}
-use mathlib.Core.Path.{◌≡◌, refl, ap, ap₂, sym, ◌∙◌}
-use mathlib.Core.Bool.{Bool, true, false, ◌&&◌, not, cond, and-true, and-false}
-use mathlib.Core.List.{List}
-use native.Mathlib.Omega.{arith}
-use lib.Dec.{eqb}
-use borrow.Author.Tests.{ne_eqb, leb-true}
+use Rattle.std.proofs.Common.{ℕ, zero, suc, ◌≡◌, refl, ap, ap₂, sym, ◌∙◌, Bool, true, false, ◌&&◌, not, cond, List, arith, eqb, ne_eqb, leb-true}
+use mathlib.Core.Bool.{and-true, and-false}
 use Rattle.tables.specs.Count.{has}
 use Rattle.tables.specs.Below.{least_below}
 use Rattle.tables.specs.Keyed.{leasts}

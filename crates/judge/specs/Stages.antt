@@ -2,7 +2,7 @@
 -- (matching/specs/MatchedRows, stages 1 and 2): a pass over the rules and the types, and one over the rules for each
 -- type that is named. A stage leaves marks, tests of the keys of a table of numbers; each definition is of any bytes.
 -- Assumes nothing.
-use Rattle.std.specs.Prelude.{ℕ, ◌+◌, ◌*◌, ◌<◌, ◌≤◌, ◌≡◌, Bool, false, ◌&&◌, ◌||◌, not, cond, List, eqb, length, get_or, replicate}
+use Rattle.std.specs.Prelude.{ℕ, ◌+◌, ◌*◌, ◌<◌, ◌≤◌, ◌≡◌, Bool, false, ◌&&◌, ◌||◌, not, cond, List, eqb, length, get_or, replicate, Option, Some, None}
 use Rattle.tables.specs.Below.{least_below}
 use Rattle.tables.specs.Keyed.{keys, leasts}
 use Rattle.meaning.specs.Records.{positive, negative, rejection, validation_hold, party_hold}
@@ -12,7 +12,6 @@ use Rattle.meaning.specs.declared.Verdict.{Verdict}
 use Rattle.places.specs.Layout.{type_places, rule_places, type_at, rule_at}
 use Rattle.places.specs.declared.RestrictionType.{RestrictionType}
 use Rattle.places.specs.declared.Rule.{Rule}
-use Rattle.rules.specs.Search.{no_rule}
 use Rattle.rules.specs.declared.ListedRule.{ListedRule}
 use Rattle.matching.specs.MatchedRows.{rule_key, codes_borne, rows_matched}
 use Rattle.commands.specs.declared.Question.{Question}
@@ -96,23 +95,21 @@ unfoldable pub rules_matched : List ℕ → Question → (ℕ → Bool) → ℕ 
 rules_matched b q rows type =
     keys (λ r. r.csd) q.csd (rule_at b) signed_key (rule_of_type q rows type) sign_keys rule_places
 
--- the type's rule at a sequence, by the marks of its two signs; a sound book has one rule there at most
-abbrev pub judged_rule : (ℕ → Bool) → ℕ → ListedRule
-judged_rule rules s = record {
-  sequence = s;
-  sign = cond (rules (sign_key s positive)) positive negative;
-  matches = rules (sign_key s positive) || rules (sign_key s negative);
-}
+-- the type's rule at a sequence that matches, by the marks of its two signs; a sound book has one rule there at most
+abbrev pub judged_rule : (ℕ → Bool) → ℕ → Option ListedRule
+judged_rule rules s =
+    cond (rules (sign_key s positive)) (Some (record { sequence = s; sign = positive }))
+    (cond (rules (sign_key s negative)) (Some (record { sequence = s; sign = negative })) None)
 
 -- no rule at any sequence
-unfoldable pub none_listed : List ListedRule
-none_listed = replicate sequences no_rule
+unfoldable pub none_listed : List (Option ListedRule)
+none_listed = replicate sequences None
 
 -- the rules of a type below sequence n, each at the place of its sequence; no rule has sequence 0
-pub record Listed (rules : ℕ → Bool) (n : ℕ) (t : List ListedRule) : Type 0 where
+pub record Listed (rules : ℕ → Bool) (n : ℕ) (t : List (Option ListedRule)) : Type 0 where
   pub long : length t ≡ sequences
-  pub none : get_or t 0 no_rule ≡ no_rule
-  pub each : (s : ℕ) → 1 ≤ s → s < n → get_or t s no_rule ≡ judged_rule rules s
+  pub none : get_or t 0 None ≡ None
+  pub each : (s : ℕ) → 1 ≤ s → s < n → get_or t s None ≡ judged_rule rules s
 
 -- the first positive rule of the type that matches, 0 where none does
 unfoldable pub first_rule : (ℕ → Bool) → ℕ
@@ -121,13 +118,12 @@ first_rule rules = least_below (λ s. cond (rules (sign_key s positive)) s 0) se
 -- ---- the verdict
 
 -- the type, if any, with its deciding rule: rules gives the marks of each type
-unfoldable pub decided : (ℕ → ℕ → Bool) → ℕ → Deciding
-decided rules type = by type (cond (eqb type 0) 0 (first_rule (rules type)))
+unfoldable pub decided : (ℕ → ℕ → Bool) → ℕ → Option Deciding
+decided rules type = cond (eqb type 0) None (Some (by type (first_rule (rules type))))
 
 -- by the type named for each processing, 0 for none: a rejected instruction shows no hold
 unfoldable pub verdict : (ℕ → ℕ → Bool) → (ℕ → ℕ) → Verdict
 verdict rules named = record {
-  rejected = not (eqb (named rejection) 0);
   rejection = decided rules (named rejection);
   validation = decided rules (cond (eqb (named rejection) 0) (named validation_hold) 0);
   party = decided rules (cond (eqb (named rejection) 0) (named party_hold) 0);

@@ -4,7 +4,7 @@
 // which rules count and which types are passed over (document 02, request d).
 #![tactic(auto)]
 
-ghost use Rattle.std.specs.Prelude.{◌≡◌, true, length, get_or};
+ghost use Rattle.std.specs.Prelude.{◌≡◌, true, cond, eqb, get_or, length, unwrap_or, Some, None};
 ghost use Rattle.meaning.specs.Judging.{judged};
 ghost use Rattle.meaning.specs.Pending.{exempted};
 ghost use Rattle.meaning.specs.Sound.{sound_lone};
@@ -12,33 +12,32 @@ ghost use Rattle.book.specs.Lone.{lone_book};
 ghost use Rattle.commands.specs.Asked.{question_of};
 ghost use Rattle.matching.specs.MatchedRows.{rule_keys};
 ghost use Rattle.tables.specs.Count.{lesser};
-ghost use Rattle.tables.specs.Keyed.{marked, Blank};
+ghost use Rattle.tables.specs.Keyed.{marked};
 ghost use Rattle.judge.specs.Stages.{sign_key, type_key, sign_keys, type_keys, processings, sequences, type_numbers, signed_key, typed_key, rule_matches, rule_of_type, rules_matched, signs_matched, type_applies, types_named, type_exempted, types_exempted, judged_rule, none_listed, Listed, first_rule, decided, verdict, judged_by};
 ghost use Rattle.judge.specs.Within.{whole, none_passed, type_passed, rows_within, judged_within, exempted_within, lone_within, lone_counted};
 
 use basics::byte_at;
 use commands::Question;
 use marks::{blank, is_marked, key};
-use matching::{RULE_KEYS, covers, mark_rules, rule_key};
+use matching::{RULE_KEYS, SEQUENCES, covers, mark_rules, rule_key};
 use meaning::{Deciding, Verdict};
 use newrules::mark_new_rules;
-use passes::{Pass, run};
+use passes::{Pass, table};
 use places::{RestrictionType, Rule};
 use rules::{ListedRule, first_positive};
 
-// The keys of a type or of a sequence, one for each sign of a rule, and 0.
+// The keys of a type or of a sequence, one for each sign of a rule, and 0: a size, and no kind.
 const SIGNS: u8 = 3;
 
-// The sizes of the tables of marks, by their keys, and of the list of a type's rules, by sequence.
+// The sizes of the tables of marks, by their keys: one is by a rule's sequence and the other by a type's number. The
+// list of a type's rules, by sequence, has SEQUENCES.
 const SIGN_KEYS: usize = 300;
 
 const TYPE_KEYS: usize = 300;
 
 const PROCESSINGS: usize = 4;
 
-const SEQUENCES: u8 = 100;
-
-// The size of the tables by type number, 1 to 99.
+// The size of the tables by type number, 1 to 99; `memory` has it as a byte, which its loops count to.
 const TYPE_NUMBERS: usize = 100;
 
 // Where tests of several calls are joined by `&` and `|`, the proof takes them together.
@@ -74,8 +73,8 @@ pub struct Judgement {
     pub exempted: [u8; TYPE_NUMBERS],
 }
 
-// The smaller of two numbers, where 0 stands for none, as in the meaning's `Deciding`: an entry of a table of bytes, so
-// that an Option would be turned into this byte and back.
+// The smaller of two numbers, where 0 stands for none: an entry of a table of bytes, so that an Option would be turned
+// into this byte and back.
 fn lesser(a: u8, b: u8) -> u8
     ensures { result ≡ lesser a b }
 {
@@ -88,18 +87,12 @@ fn lesser(a: u8, b: u8) -> u8
     if a < b { a } else { b }
 }
 
-// The key of a type, or of a type's rule by its sequence, with the sign of a rule.
+// The key of a type, or of a type's rule by its sequence, with the sign of a rule: `marks::key` at this table's size,
+// as `matching::rule_key` is at the rules' table. Two functions, since without a name each caller would state the size.
 fn signed_key(number: u8, sign: u8) -> usize
     ensures { result ≡ type_key number sign }
 {
     key::<SIGNS>(u32::from(number), sign)
-}
-
-// A table of types to be passed over that has none.
-pub fn none_passed() -> [u8; 1]
-    ensures { marked result ≡ none_passed }
-{
-    [0]
 }
 
 // 3. The signs of which a rule of a type matches.
@@ -127,27 +120,9 @@ impl<'a> Pass for Signs<'a> {
 
     ghost key = { λ s r. typed_key r };
 
-    ghost entry = { λ s r m. 1 };
-
-    fn is_on(&self, r: Rule) -> bool {
-        rule_matches(self.q, self.rows, r)
+    fn entry(&self, r: Rule, _before: &[u8]) -> Option<(usize, u8)> {
+        rule_matches(self.q, self.rows, r).then_some((signed_key(r.number, r.sign), 1))
     }
-
-    fn key(&self, r: Rule) -> usize {
-        signed_key(r.number, r.sign)
-    }
-
-    fn entry(&self, _r: Rule, _before: u8) -> u8 {
-        1
-    }
-}
-
-fn signs_matched(b: &[u8], q: Question, rows: &[u8]) -> [u8; TYPE_KEYS]
-    ensures { marked result ≡ signs_matched b.now q (marked rows.now) }
-{
-    let mut t: [u8; TYPE_KEYS] = blank();
-    run(&Signs { q, rows }, &mut t, b, q.csd);
-    t
 }
 
 // 4. The lowest type of each processing.
@@ -181,30 +156,22 @@ impl<'a> Pass for Named<'a> {
 
     // A current type that is not passed over, of which a positive rule matches and no negative one does, wherever it
     // stands in sequence.
-    fn is_on(&self, t: RestrictionType) -> bool {
+    fn entry(&self, t: RestrictionType, before: &[u8]) -> Option<(usize, u8)> {
         let current = covers(t.first, t.last, self.q.day);
         let positive = is_marked(self.signs, signed_key(t.number, Rule::POSITIVE));
         let negative = is_marked(self.signs, signed_key(t.number, Rule::NEGATIVE));
         let deciding = positive & !negative;
-        ((t.object == self.q.object) & current)
-            & (deciding & !passed_over(self.scope, self.passed, t))
-    }
-
-    fn key(&self, t: RestrictionType) -> usize {
-        usize::from(t.processing)
-    }
-
-    fn entry(&self, t: RestrictionType, before: u8) -> u8 {
-        lesser(t.number, before)
+        let applies = ((t.object == self.q.object) & current)
+            & (deciding & !passed_over(self.scope, self.passed, t));
+        let k = usize::from(t.processing);
+        applies.then_some((k, lesser(t.number, byte_at(before, k))))
     }
 }
 
 fn types_named(b: &[u8], asked: &Named<'_>) -> [u8; PROCESSINGS]
     ensures { (λ k. get_or result k 0) ≡ types_named b.now asked.now.q (type_passed asked.now.scope (marked asked.now.passed.now)) (marked asked.now.signs.now) }
 {
-    let mut t: [u8; PROCESSINGS] = blank();
-    run(asked, &mut t, b, asked.q.csd);
-    t
+    table(asked, b, asked.q.csd)
 }
 
 // The marks of the types exempted, by the signs of which a rule matches.
@@ -221,30 +188,19 @@ impl<'a> Pass for Exempted<'a> {
 
     ghost key = { λ s t. t.number };
 
-    ghost entry = { λ s t m. 1 };
-
     // A current type, of which a negative rule matches.
-    fn is_on(&self, t: RestrictionType) -> bool {
+    fn entry(&self, t: RestrictionType, _before: &[u8]) -> Option<(usize, u8)> {
         let in_force = covers(t.first, t.last, self.q.day);
         let exempts = is_marked(self.signs, signed_key(t.number, Rule::NEGATIVE));
-        (t.object == self.q.object) & in_force & exempts
-    }
-
-    fn key(&self, t: RestrictionType) -> usize {
-        usize::from(t.number)
-    }
-
-    fn entry(&self, _t: RestrictionType, _before: u8) -> u8 {
-        1
+        let exempted = (t.object == self.q.object) & in_force & exempts;
+        exempted.then_some((usize::from(t.number), 1))
     }
 }
 
 fn types_exempted(b: &[u8], q: Question, signs: &[u8]) -> [u8; TYPE_NUMBERS]
     ensures { marked result ≡ types_exempted b.now q (marked signs.now) }
 {
-    let mut t: [u8; TYPE_NUMBERS] = blank();
-    run(&Exempted { q, signs }, &mut t, b, q.csd);
-    t
+    table(&Exempted { q, signs }, b, q.csd)
 }
 
 // 5. The rules of a type that is named, looked through in rising sequence.
@@ -264,130 +220,139 @@ impl<'a> Pass for TypeRules<'a> {
 
     ghost key = { λ s r. signed_key r };
 
-    ghost entry = { λ s r m. 1 };
-
-    fn is_on(&self, r: Rule) -> bool {
-        (r.number == self.number) & rule_matches(self.q, self.rows, r)
-    }
-
-    fn key(&self, r: Rule) -> usize {
-        signed_key(r.sequence, r.sign)
-    }
-
-    fn entry(&self, _r: Rule, _before: u8) -> u8 {
-        1
+    fn entry(&self, r: Rule, _before: &[u8]) -> Option<(usize, u8)> {
+        let matches = (r.number == self.number) & rule_matches(self.q, self.rows, r);
+        matches.then_some((signed_key(r.sequence, r.sign), 1))
     }
 }
 
-fn rules_matched(b: &[u8], q: Question, rows: &[u8], number: u8) -> [u8; SIGN_KEYS]
-    ensures { marked result ≡ rules_matched b.now q (marked rows.now) number }
-{
-    let mut t: [u8; SIGN_KEYS] = blank();
-    run(&TypeRules { q, rows, number }, &mut t, b, q.csd);
-    t
-}
-
-// The type's rule at a sequence, as judged. A sound book has one rule there at most, so one mark.
-fn judged_rule(rules: &[u8], sequence: u8) -> ListedRule
+// The type's rule at a sequence that matches, if one does. A sound book has one rule there at most, so one mark.
+fn judged_rule(rules: &[u8], sequence: u8) -> Option<ListedRule>
     ensures { result ≡ judged_rule (marked rules.now) sequence }
 {
     if is_marked(rules, signed_key(sequence, Rule::POSITIVE)) {
-        return ListedRule {
-            sequence,
-            sign: Rule::POSITIVE,
-            matches: true,
-        };
+        let sign = Rule::POSITIVE;
+        return Some(ListedRule { sequence, sign });
     }
-    ListedRule {
-        sequence,
-        sign: Rule::NEGATIVE,
-        matches: is_marked(rules, signed_key(sequence, Rule::NEGATIVE)),
+    if is_marked(rules, signed_key(sequence, Rule::NEGATIVE)) {
+        let sign = Rule::NEGATIVE;
+        return Some(ListedRule { sequence, sign });
     }
+    None
 }
 
-// A list without a rule.
-fn none_listed() -> [ListedRule; SEQUENCES as usize]
+// A list without a rule. It is of a fixed size: there is no heap.
+fn none_listed() -> [Option<ListedRule>; SEQUENCES as usize]
     ensures { result ≡ none_listed }
 {
-    let none = ListedRule {
-        sequence: 0,
-        sign: 0,
-        matches: false,
-    };
-    [none; SEQUENCES as usize]
+    [None; SEQUENCES as usize]
 }
 
-// The rules of a type, each at the place of its sequence. No rule has sequence 0.
-fn rules_listed(rules: &[u8]) -> [ListedRule; SEQUENCES as usize]
+// The rules of a type, each at the place of its sequence. No rule has sequence 0. The loop is over sequences, by which
+// the marks are asked: over the list's places, `enumerate` would give a usize to be turned into the sequence's byte.
+fn rules_listed(rules: &[u8]) -> [Option<ListedRule>; SEQUENCES as usize]
     ensures { Listed (marked rules.now) sequences result }
 {
     let mut t = none_listed();
     for s in 1..SEQUENCES {
-        t[s as usize] = judged_rule(rules, s);
+        t[usize::from(s)] = judged_rule(rules, s);
     }
     t
 }
 
-// The first positive rule of a type that matches, 0 where none does.
-fn first_rule(rules: &[u8]) -> u8
-    ensures { result ≡ first_rule (marked rules.now) }
+// The first positive rule of a type that matches, if one does; the meaning's `deciding` has 0 for none.
+fn first_rule(rules: &[u8]) -> Option<u8>
+    ensures { unwrap_or result 0 ≡ first_rule (marked rules.now) }
 {
-    first_positive(&rules_listed(rules)).unwrap_or(0)
+    first_positive(&rules_listed(rules))
 }
 
-// The deciding rule of a type.
-fn deciding_rule(b: &[u8], q: Question, rows: &[u8], number: u8) -> u8
-    ensures { result ≡ first_rule (rules_matched b.now q (marked rows.now) number) }
+// The type named for a processing, if one is: 0 in the table is no type.
+fn named_for(named: &[u8], processing: u8) -> Option<u8>
+    ensures { result ≡ cond (eqb (get_or named.now processing 0) 0) None (Some (get_or named.now processing 0)) }
 {
-    let rules = rules_matched(b, q, rows, number);
-    first_rule(&rules)
+    let number = byte_at(named, usize::from(processing));
+    if number == 0 { None } else { Some(number) }
 }
 
-const NO_TYPE: Deciding = Deciding {
-    number: 0,
-    sequence: 0,
-};
-
-// A type, if any, with its deciding rule.
-fn decided(b: &[u8], q: Question, rows: &[u8], number: u8) -> Deciding
-    ensures { result ≡ decided (rules_matched b.now q (marked rows.now)) number }
-{
-    if number == 0 {
-        return NO_TYPE;
-    }
-    Deciding {
-        number,
-        sequence: deciding_rule(b, q, rows, number),
-    }
+// What a question is judged by: the book's bytes, the question, and the marks of the rules that count and of which a
+// row matches.
+#[derive(Clone, Copy)]
+struct Matched<'a> {
+    book: &'a [u8],
+    q: Question,
+    rows: &'a [u8],
 }
 
-// The type named for a processing, 0 for none. The number is the table's key, as in the records: no enum.
-fn named_for(named: &[u8], processing: u8) -> u8
-    ensures { result ≡ get_or named.now processing 0 }
-{
-    byte_at(named, usize::from(processing))
-}
-
-// Rejection comes first, and a rejected instruction shows no hold.
-fn verdict(b: &[u8], q: Question, rows: &[u8], named: &[u8]) -> Verdict
-    ensures { result ≡ verdict (rules_matched b.now q (marked rows.now)) (λ k. get_or named.now k 0) }
-{
-    let rejecting = named_for(named, RestrictionType::REJECTION);
-    if rejecting != 0 {
-        return Verdict {
-            rejected: true,
-            rejection: decided(b, q, rows, rejecting),
-            validation: NO_TYPE,
-            party: NO_TYPE,
+impl<'a> Matched<'a> {
+    // The marks of the signs of which a rule of each type matches.
+    fn signs(&self) -> [u8; TYPE_KEYS]
+        ensures { marked result ≡ signs_matched self.now.book.now self.now.q (marked self.now.rows.now) }
+    {
+        let signs = Signs {
+            q: self.q,
+            rows: self.rows,
         };
+        table(&signs, self.book, self.q.csd)
     }
-    let validation = named_for(named, RestrictionType::VALIDATION_HOLD);
-    let party = named_for(named, RestrictionType::PARTY_HOLD);
-    Verdict {
-        rejected: false,
-        rejection: NO_TYPE,
-        validation: decided(b, q, rows, validation),
-        party: decided(b, q, rows, party),
+
+    // The marks of a type's matching rules, by sequence and sign.
+    fn rules_of(&self, number: u8) -> [u8; SIGN_KEYS]
+        ensures { marked result ≡ rules_matched self.now.book.now self.now.q (marked self.now.rows.now) number }
+    {
+        let rules = TypeRules {
+            q: self.q,
+            rows: self.rows,
+            number,
+        };
+        table(&rules, self.book, self.q.csd)
+    }
+
+    // The type named for a processing with its deciding rule, if a type is named.
+    fn decided(&self, named: &[u8], processing: u8) -> Option<Deciding>
+        ensures { result ≡ decided (rules_matched self.now.book.now self.now.q (marked self.now.rows.now)) (get_or named.now processing 0) }
+    {
+        let number = named_for(named, processing)?;
+        let rules = self.rules_of(number);
+        Some(Deciding {
+            number,
+            // 0 where no rule is found, as in the meaning's `deciding`.
+            sequence: first_rule(&rules).unwrap_or(0),
+        })
+    }
+
+    // Rejection comes first, and a rejected instruction shows no hold.
+    fn verdict(&self, named: &[u8]) -> Verdict
+        ensures { result ≡ verdict (rules_matched self.now.book.now self.now.q (marked self.now.rows.now)) (λ k. get_or named.now k 0) }
+    {
+        let rejection = self.decided(named, RestrictionType::REJECTION);
+        if rejection.is_some() {
+            return Verdict {
+                rejection,
+                validation: None,
+                party: None,
+            };
+        }
+        Verdict {
+            rejection: None,
+            validation: self.decided(named, RestrictionType::VALIDATION_HOLD),
+            party: self.decided(named, RestrictionType::PARTY_HOLD),
+        }
+    }
+
+    // The verdict by the signs of which a rule matches, where types are passed over: for `judge` and `judge_within`, of
+    // which each makes the signs, since the second asks them for the types exempted too.
+    fn found(&self, scope: Scope, passed: &[u8], signs: &[u8]) -> Verdict
+        ensures { result ≡ verdict (rules_matched self.now.book.now self.now.q (marked self.now.rows.now)) (types_named self.now.book.now self.now.q (type_passed scope (marked passed.now)) (marked signs.now)) }
+    {
+        let asked = Named {
+            q: self.q,
+            scope,
+            passed,
+            signs,
+        };
+        let named = types_named(self.book, &asked);
+        self.verdict(&named)
     }
 }
 
@@ -399,16 +364,13 @@ pub fn judge(book: &[u8], q: Question) -> Verdict
 {
     let mut rows: [u8; RULE_KEYS] = blank();
     mark_rules(&mut rows, book, q);
-    let signs = signs_matched(book, q, &rows);
-    let none = none_passed();
-    let asked = Named {
+    let on = Matched {
+        book,
         q,
-        scope: Scope::whole(),
-        passed: &none,
-        signs: &signs,
+        rows: &rows,
     };
-    let named = types_named(book, &asked);
-    verdict(book, q, &rows, &named)
+    let signs = on.signs();
+    on.found(Scope::whole(), &[], &signs)
 }
 
 // Marks the rules that count and of which a row matches, in a lent table, whatever stood there.
@@ -436,16 +398,14 @@ pub fn judge_within(book: &[u8], q: Question, s: Scope, passed: &[u8]) -> Judgem
 {
     let mut rows: [u8; RULE_KEYS] = blank();
     rules_within(&mut rows, book, q, s.fresh);
-    let signs = signs_matched(book, q, &rows);
-    let asked = Named {
+    let on = Matched {
+        book,
         q,
-        scope: s,
-        passed,
-        signs: &signs,
+        rows: &rows,
     };
-    let named = types_named(book, &asked);
+    let signs = on.signs();
     Judgement {
-        verdict: verdict(book, q, &rows, &named),
+        verdict: on.found(s, passed, &signs),
         exempted: types_exempted(book, q, &signs),
     }
 }

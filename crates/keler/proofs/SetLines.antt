@@ -105,11 +105,13 @@ module _ (csd day first last : ℕ) where
     pub a_type : r ≡ written_as (type_line n csd day first last) → n < 10 → r ≡ written_as (get_or (keler_lines csd day first last) n [])
     a_type e h = e ∙ ap written_as (sym (type_line_lem n h))
 
-    pub a_rule : r ≡ written_as (rule_line (n - 10) csd day first last) → n < 23 → 10 ≤ n → r ≡ written_as (get_or (keler_lines csd day first last) n [])
-    a_rule e h g = e ∙ ap written_as (sym (rule_line_lem n g h))
+    pub a_rule : r ≡ written_as (rule_line (n - 10) csd day first last) → n - 10 < 13 → 10 ≤ n → r ≡ written_as (get_or (keler_lines csd day first last) n [])
+    a_rule e h g = e ∙ ap written_as (sym (rule_line_lem n g (omega arith)))
 
-    pub a_row : r ≡ written_as (row_line (n - 23) csd day) → n < 55 → 23 ≤ n → r ≡ written_as (get_or (keler_lines csd day first last) n [])
-    a_row e h g = e ∙ ap written_as (sym (row_line_lem n g h))
+    pub a_row : r ≡ written_as (row_line (n - 10 - 13) csd day) → n - 10 - 13 < 32 → 13 ≤ n - 10 → r ≡ written_as (get_or (keler_lines csd day first last) n [])
+    a_row e h g =
+        let same : n - 10 - 13 ≡ n - 23 = omega arith in
+        (rw same at e) ∙ ap written_as (sym (row_line_lem n (omega arith) (omega arith)))
 
-    pub none : r ≡ [] → 55 ≤ n → r ≡ written_as (get_or (keler_lines csd day first last) n [])
-    none e h = rw (no_line n h) e
+    pub none : r ≡ [] → 32 ≤ n - 10 - 13 → r ≡ written_as (get_or (keler_lines csd day first last) n [])
+    none e h = rw (no_line n (omega arith)) e

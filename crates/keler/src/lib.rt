@@ -13,15 +13,17 @@ use meaning::Refusal;
 use set::set_line;
 use writing::{SPACE, Written};
 
-// The day of a line, and the first and last day of the set's types and rules.
+// What a set is written for: a depository, the day of each line, and the first and last day of its types and rules.
 #[derive(Clone, Copy, Debug, PartialEq, Eq)]
-pub struct Dates {
+pub struct KelerSet {
+    pub csd: u32,
     pub day: u32,
     pub first: u32,
     pub last: u32,
 }
 
-// The set has 55 lines.
+// The set has 55 lines. This range and the next have names, as the proof of `is_admitted` cites them; what they share
+// is `contains`.
 fn is_number(number: u32) -> bool
     ensures { result ≡ within 1 55 number }
 {
@@ -36,26 +38,26 @@ fn is_csd(csd: u32) -> bool
 
 // A right number, csd and dates, first not after last, and 80 or more bytes. All tests are made: `&&` would part the
 // proof at each.
-fn is_admitted(number: u32, csd: u32, dates: Dates, space: usize) -> bool
-    ensures { result ≡ admitted number csd dates.day dates.first dates.last space }
+fn is_admitted(number: u32, set: KelerSet, space: usize) -> bool
+    ensures { result ≡ admitted number set.csd set.day set.first set.last space }
 {
     is_number(number)
-        & is_csd(csd)
-        & is_day(dates.day)
-        & is_day(dates.first)
-        & is_day(dates.last)
-        & (dates.first <= dates.last)
+        & is_csd(set.csd)
+        & is_day(set.day)
+        & is_day(set.first)
+        & is_day(set.last)
+        & (set.first <= set.last)
         & (SPACE <= space)
 }
 
 // Anything wrong comes before a first day not later than the day.
-fn refusal(number: u32, csd: u32, dates: Dates, space: usize) -> Option<Refusal>
-    ensures { result ≡ keler_refusal number csd dates.day dates.first dates.last space }
+fn refusal(number: u32, set: KelerSet, space: usize) -> Option<Refusal>
+    ensures { result ≡ keler_refusal number set.csd set.day set.first set.last space }
 {
-    if !is_admitted(number, csd, dates, space) {
+    if !is_admitted(number, set, space) {
         return Some(Refusal::BadField);
     }
-    if dates.first <= dates.day {
+    if set.first <= set.day {
         return Some(Refusal::TooEarly);
     }
     None
@@ -72,14 +74,16 @@ fn put(line: &Written, out: &mut [u8]) -> usize
     n
 }
 
-// Writes line 1 to 55 of the set for a csd and dates, and returns its length; or refuses and writes nothing.
-pub fn keler_line(number: u32, csd: u32, dates: Dates, out: &mut [u8]) -> Result<usize, Refusal>
-    ensures { Steps number csd dates.day dates.first dates.last out.old result out.new }
+// Writes line 1 to 55 of a set, and returns its length; or refuses and writes nothing. The caller lends the bytes,
+// since there is no heap, and document 01 says what stands in them: 'a shorter buffer gets 5', 'the bytes after it
+// untouched'.
+pub fn keler_line(number: u32, set: KelerSet, out: &mut [u8]) -> Result<usize, Refusal>
+    ensures { Steps number set.csd set.day set.first set.last out.old result out.new }
 {
-    if let Some(refusal) = refusal(number, csd, dates, out.len()) {
+    if let Some(refusal) = refusal(number, set, out.len()) {
         return Err(refusal);
     }
     let n = (number - 1) as usize;
-    let line = set_line(n, csd, dates);
+    let line = set_line(n, set);
     Ok(put(&line, out))
 }

@@ -4,12 +4,23 @@ ghost use Rattle.meaning.specs.Keler.{keler_lines};
 ghost use Rattle.writing.specs.Written.{written_as};
 ghost use Rattle.keler.specs.Lines.{type_line, rule_line, row_line};
 
-use crate::Dates;
+use crate::KelerSet;
 use shapes::Shape;
 use writing::{Written, write_line};
 
+// How many lines of each kind the set has.
+const TYPES: usize = 10;
+
+const RULES: usize = 13;
+
+const ROWS: usize = 32;
+
+// The tables are rows of numbers, and no structs or kinds by name: a row stands as document 01 prints it, to be
+// compared with it line by line, and its numbers go to `write_line`, which takes numbers for every shape. The columns
+// are named where a row is taken apart below.
+
 // Type, object, processing.
-static KELER_TYPES: [[u32; 3]; 10] = [
+static KELER_TYPES: [[u32; 3]; TYPES] = [
     [1, 1, 1],
     [1, 2, 1],
     [2, 1, 1],
@@ -28,7 +39,7 @@ const P: u32 = 1;
 const N: u32 = 2;
 
 // Type, object, sequence, sign, criteria.
-static KELER_RULES: [[u32; 5]; 13] = [
+static KELER_RULES: [[u32; 5]; RULES] = [
     [1, 1, 1, P, 64],
     [1, 1, 2, N, 72],
     [1, 2, 1, P, 64],
@@ -44,15 +55,15 @@ static KELER_RULES: [[u32; 5]; 13] = [
     [5, 2, 1, P, 128],
 ];
 
-// The movement DELI is the first word of its form; the transaction CORP is the number of its four letters. 0 is an
-// empty value.
+// The movement DELI is the first word of its form; the transaction CORP is the number of its four letters, written out,
+// as Rattle takes no call of `from_be_bytes` in a constant. 0 is an empty value.
 const DELI: u32 = 1;
 
 const CORP: u32 = 1129271888;
 
 // Type, object, sequence; movement, transaction; the codes of party, account and security. The other five values are
 // empty in every row.
-static KELER_ROWS: [[u32; 8]; 32] = [
+static KELER_ROWS: [[u32; 8]; ROWS] = [
     [1, 1, 1, 0, 0, 101, 0, 0],
     [1, 1, 1, 0, 0, 102, 0, 0],
     [1, 1, 1, 0, 0, 103, 0, 0],
@@ -89,45 +100,34 @@ static KELER_ROWS: [[u32; 8]; 32] = [
 
 // ---- the lines
 
-fn type_line(n: usize, csd: u32, dates: Dates) -> Written
+// A function for each table, which names the table's columns and says where the dates stand among them. One for all
+// three would be told both by its callers, and be no plainer.
+
+fn type_line(n: usize, set: KelerSet) -> Written
     requires { n < 10 }
-    ensures { result ≡ written_as (type_line n csd dates.day dates.first dates.last) }
+    ensures { result ≡ written_as (type_line n set.csd set.day set.first set.last) }
 {
     let [number, object, processing] = KELER_TYPES[n];
     let numbers = [
-        csd,
-        dates.day,
-        number,
-        object,
-        processing,
-        dates.first,
-        dates.last,
+        set.csd, set.day, number, object, processing, set.first, set.last,
     ];
     write_line(Shape::T, &numbers)
 }
 
-fn rule_line(n: usize, csd: u32, dates: Dates) -> Written
+fn rule_line(n: usize, set: KelerSet) -> Written
     requires { n < 13 }
-    ensures { result ≡ written_as (rule_line n csd dates.day dates.first dates.last) }
+    ensures { result ≡ written_as (rule_line n set.csd set.day set.first set.last) }
 {
     let [number, object, sequence, sign, criteria] = KELER_RULES[n];
     let numbers = [
-        csd,
-        dates.day,
-        number,
-        object,
-        sequence,
-        sign,
-        criteria,
-        dates.first,
-        dates.last,
+        set.csd, set.day, number, object, sequence, sign, criteria, set.first, set.last,
     ];
     write_line(Shape::R, &numbers)
 }
 
-fn row_line(n: usize, csd: u32, day: u32) -> Written
+fn row_line(n: usize, set: KelerSet) -> Written
     requires { n < 32 }
-    ensures { result ≡ written_as (row_line n csd day) }
+    ensures { result ≡ written_as (row_line n set.csd set.day) }
 {
     let [
         number,
@@ -140,8 +140,8 @@ fn row_line(n: usize, csd: u32, day: u32) -> Written
         security,
     ] = KELER_ROWS[n];
     let numbers = [
-        csd,
-        day,
+        set.csd,
+        set.day,
         number,
         object,
         sequence,
@@ -159,18 +159,20 @@ fn row_line(n: usize, csd: u32, day: u32) -> Written
     write_line(Shape::M, &numbers)
 }
 
-// The line after n others: 10 T lines, 13 R lines, 32 M lines, and no bytes after these.
-pub fn set_line(n: usize, csd: u32, dates: Dates) -> Written
-    ensures { result ≡ written_as (get_or (keler_lines csd dates.day dates.first dates.last) n []) }
+// The line after n others: the T lines, the R lines, the M lines, and no bytes after these.
+pub fn set_line(n: usize, set: KelerSet) -> Written
+    ensures { result ≡ written_as (get_or (keler_lines set.csd set.day set.first set.last) n []) }
 {
-    if n < 10 {
-        return type_line(n, csd, dates);
+    if n < TYPES {
+        return type_line(n, set);
     }
-    if n < 23 {
-        return rule_line(n - 10, csd, dates);
+    let rule = n - TYPES;
+    if rule < RULES {
+        return rule_line(rule, set);
     }
-    if n < 55 {
-        return row_line(n - 23, csd, dates.day);
+    let row = rule - RULES;
+    if row < ROWS {
+        return row_line(row, set);
     }
     Written::new()
 }

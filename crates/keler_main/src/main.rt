@@ -2,20 +2,21 @@
 // bytes of each. tools/keler_vectors.py writes what it must show.
 #![tactic(auto)]
 
-use keler::{Dates, keler_line};
+use keler::{KelerSet, keler_line};
 use std::io;
 
-// The days of document 01's marked questions.
-const DATES: Dates = Dates {
+// The set of depository 1, with the days of document 01's marked questions.
+const SET: KelerSet = KelerSet {
+    csd: 1,
     day: 20170205,
     first: 20170206,
     last: 20991231,
 };
 
-// A line of the set for a csd and dates: its length or the refusal's number, and all the bytes.
-fn show(rt: &impl Print, number: u32, csd: u32, dates: Dates, space: &mut [u8]) -> io::Result<()> {
+// A line of a set: its length or the refusal's number, and all the bytes.
+fn show(rt: &impl Print, number: u32, set: KelerSet, space: &mut [u8]) -> io::Result<()> {
     space.fill(b'#');
-    match keler_line(number, csd, dates, space) {
+    match keler_line(number, set, space) {
         Ok(n) => print!(rt; "{n} ")?,
         Err(refusal) => {
             let n = u8::from(refusal);
@@ -28,7 +29,7 @@ fn show(rt: &impl Print, number: u32, csd: u32, dates: Dates, space: &mut [u8]) 
 
 fn show_set(rt: &impl Print, space: &mut [u8]) -> io::Result<()> {
     for number in 1..56 {
-        show(rt, number, 1, DATES, space)?;
+        show(rt, number, SET, space)?;
     }
     Ok(())
 }
@@ -36,27 +37,27 @@ fn show_set(rt: &impl Print, space: &mut [u8]) -> io::Result<()> {
 // 79 bytes are refused, 80 are enough.
 fn show_sizes(rt: &impl Print) -> io::Result<()> {
     let mut short = [0u8; 79];
-    show(rt, 1, 1, DATES, &mut short)?;
+    show(rt, 1, SET, &mut short)?;
     let mut enough = [0u8; 80];
-    show(rt, 55, 8, DATES, &mut enough)
+    show(rt, 55, KelerSet { csd: 8, ..SET }, &mut enough)
 }
 
 fn main(rt: HostRuntime) -> io::Result<()> {
     let mut space = [0u8; 82];
     show_set(&rt, &mut space)?;
-    show(&rt, 0, 1, DATES, &mut space)?;
-    show(&rt, 56, 1, DATES, &mut space)?;
-    show(&rt, 1, 9, DATES, &mut space)?;
-    let no_day = Dates {
+    show(&rt, 0, SET, &mut space)?;
+    show(&rt, 56, SET, &mut space)?;
+    show(&rt, 1, KelerSet { csd: 9, ..SET }, &mut space)?;
+    let no_day = KelerSet {
         first: 20170229,
-        ..DATES
+        ..SET
     };
-    show(&rt, 1, 1, no_day, &mut space)?;
-    let early = Dates {
+    show(&rt, 1, no_day, &mut space)?;
+    let early = KelerSet {
         day: 20170206,
-        ..DATES
+        ..SET
     };
-    show(&rt, 1, 1, early, &mut space)?;
-    show(&rt, 1, 9, early, &mut space)?;
+    show(&rt, 1, early, &mut space)?;
+    show(&rt, 1, KelerSet { csd: 9, ..early }, &mut space)?;
     show_sizes(&rt)
 }

@@ -1,9 +1,11 @@
 -- What a line gives, test by test: x is what the code answers.
-use mathlib.Core.Path.{◌≡◌, refl, sym, ◌∙◌}
+use mathlib.Core.Path.{◌≡◌, refl, ap, sym, ◌∙◌}
 use mathlib.Core.Bool.{Bool, true, false, ◌&&◌}
 use mathlib.Core.List.{List, [], ◌∷◌}
 use Rattle.std.specs.Prelude.{Option, Some, None, Result, Ok, Err}
-use Rattle.std.specs.Option.{option_map}
+use Rattle.std.specs.Option.{option_map, ok_or}
+use Rattle.std.specs.Result.{IsErrAnd}
+use Rattle.std.proofs.lemmas.Result.{err_from_is_err_and}
 use Prim.Native.Nat.{ℕ, ◌+◌, ◌≤◌}
 use borrow.Author.Tests.{eq-eqb, ne_eqb}
 use native.Mathlib.Omega.{arith}
@@ -89,26 +91,36 @@ module _ (l : List ℕ) {c e : ℕ} {h : Bool} (a : e ≡ place 44 l) (b : c ≡
       let q : take e l ≡ c ∷ [] = rw (a, b) (first_byte l (sym a ∙ o)) in
       rw (first_field l, ← a, is_letter l e h a (rw (← b) d), eq-eqb e 1 o, y, q, ← i, ← j) r
 
+-- ---- a refusal by `?`
+
+pub refused_by : {A B : Type 0} {o : Option A} {x : Result B Refusal} (e y : Refusal) → Err y ≡ ok_or o e → o ≡ None
+    → IsErrAnd x (λ z. z ≡ y) → x ≡ Err e
+refused_by {x} e y a b p =
+    let q = err_from_is_err_and x p in
+    let s : Err y ≡ Err e = rw b at a in
+    let t : y ≡ e = cc in
+    q.1 ∙ ap Err (q.2 ∙ t)
+
 -- ---- the numbers
 
 module _ (fs : List (List ℕ)) where
-  pub miscounted : {s : Option RowName} → s ≡ None → Err FieldCount ≡ line_of (by_shape (option_map row_of s) fs)
+  pub miscounted : Err FieldCount ≡ line_of (by_shape None fs)
   unfolding by_shape line_of
-  miscounted e = rw e
+  miscounted = refl
 
-  module _ {o : Option RowName} (s : RowName) {v : Option (List ℕ)} (a : o ≡ Some s) (q : v ≡ in_row (read_all (forms_of s) fs)) where
-    pub bad_field : v ≡ None → Err BadField ≡ line_of (by_shape (option_map row_of o) fs)
+  module _ (s : RowName) {v : Option (List ℕ)} (q : v ≡ in_row (read_all (forms_of s) fs)) where
+    pub bad_field : v ≡ None → Err BadField ≡ line_of (by_shape (Some (row_of s)) fs)
     unfolding by_shape by_numbers forms_of in_row line_of
-    bad_field e = rw a (go (read_all (row_of s).forms fs) (sym e ∙ q))
+    bad_field e = go (read_all (row_of s).forms fs) (sym e ∙ q)
       where
         go : (n : Option (List ℕ)) → None ≡ in_row n → Err BadField ≡ line_of (by_numbers (row_of s).letter n)
         go None f = refl
         go (Some ns) f = cc
 
     pub good_fields : {c : ℕ} {row : List ℕ} → v ≡ Some row → c ≡ letter_byte (row_of s).letter
-        → Ok (record { letter = c; values = row }) ≡ line_of (by_shape (option_map row_of o) fs)
+        → Ok (record { letter = c; values = row }) ≡ line_of (by_shape (Some (row_of s)) fs)
     unfolding by_shape by_numbers forms_of in_row line_of
-    good_fields {c} {row} e f = rw a (go (read_all (row_of s).forms fs) (sym e ∙ q))
+    good_fields {c} {row} e f = go (read_all (row_of s).forms fs) (sym e ∙ q)
       where
         go : (n : Option (List ℕ)) → Some row ≡ in_row n → Ok (record { letter = c; values = row }) ≡ line_of (by_numbers (row_of s).letter n)
         go None g = cc

@@ -1,10 +1,9 @@
 // The number that a field gives, by its form (document 01, 'Lines'; document 02, request b).
 ghost use Rattle.std.specs.Prelude.{◌-◌, ◌<◌, ◌≤◌, min, ◌≡◌, length, map};
 ghost use Rattle.meaning.specs.Text.{word, decimal};
-ghost use Rattle.meaning.specs.Forms.{is_number, is_code, given, read, up_to, code, day, letters, one_of};
+ghost use Rattle.meaning.specs.Forms.{is_number, is_code, read, up_to, code, day, letters, one_of};
 ghost use Rattle.shapes.specs.Table.{plain_form, field_of};
 
-use crate::{is_capital, is_digit};
 use basics::byte_at;
 use days::is_day;
 use shapes::{Field, Form};
@@ -44,21 +43,15 @@ fn word(f: &[u8]) -> u32
     n
 }
 
-// The number n, if the test passed.
-fn given(test: bool, n: u32) -> Option<u32>
-    ensures { result ≡ given test n }
-{
-    if test { Some(n) } else { None }
-}
-
 // Numbers are decimal, without leading zeros.
 fn is_number(f: &[u8]) -> bool
     ensures { result ≡ is_number f.now }
 {
-    f.iter().all(|&c| is_digit(c)) && b'0' < byte_at(f, 0)
+    f.iter().all(|&c| c.is_ascii_digit()) && b'0' < byte_at(f, 0)
 }
 
-// Attribute × 100 + value, each 1 to 99.
+// Attribute × 100 + value, each 1 to 99. `ranges` has the same test of a record: the reader of lines stands on nothing
+// of the book, and a crate for one expression would be no plainer.
 fn is_code(n: u32) -> bool
     ensures { result ≡ is_code n }
 {
@@ -74,23 +67,24 @@ fn up_to(f: &[u8], max: u32) -> Option<u32>
     ensures { result ≡ read (up_to max) f.now }
 {
     let n = decimal(f);
-    given(is_number(f) & (1..=max).contains(&n), n)
+    (is_number(f) & (1..=max).contains(&n)).then_some(n)
 }
 
 fn code(f: &[u8]) -> Option<u32>
     ensures { result ≡ read code f.now }
 {
     let n = decimal(f);
-    given(is_number(f) & is_code(n), n)
+    (is_number(f) & is_code(n)).then_some(n)
 }
 
 fn day(f: &[u8]) -> Option<u32>
     ensures { result ≡ read day f.now }
 {
     let n = decimal(f);
-    given((f.len() == 8) & is_number(f) & is_day(n), n)
+    ((f.len() == 8) & is_number(f) & is_day(n)).then_some(n)
 }
 
+// As many letters as the form has: n is no place in f.
 fn letters(f: &[u8], n: usize) -> Option<u32>
     requires { n ≤ 4 }
     ensures { result ≡ read (letters n) f.now }
@@ -98,7 +92,7 @@ fn letters(f: &[u8], n: usize) -> Option<u32>
     if f.len() != n {
         return None;
     }
-    given(f.iter().all(|&c| is_capital(c)), word(f))
+    f.iter().all(|&c| c.is_ascii_uppercase()).then_some(word(f))
 }
 
 // One of a few words, by its place, from 1 on.
@@ -110,7 +104,7 @@ fn one_of(f: &[u8], words: &[&[u8]]) -> Option<u32>
     Some(place as u32 + 1)
 }
 
-// A field that is not empty.
+// A field that is not empty. A match: each form has another test, and a row of the table is data, in `shapes`.
 fn plain_value(f: &[u8], form: Form) -> Option<u32>
     ensures { result ≡ read (plain_form form) f.now }
 {
@@ -124,18 +118,17 @@ fn plain_value(f: &[u8], form: Form) -> Option<u32>
         Form::Number => up_to(f, 999_999),
         Form::PartyType => up_to(f, 3),
         Form::Day => day(f),
-        Form::Sign => one_of(f, &[b"P", b"N"]),
-        Form::Kind => one_of(f, &[b"P", b"A", b"S"]),
+        Form::Sign | Form::Kind | Form::Movement | Form::Payment | Form::Wish => {
+            one_of(f, form.words())
+        }
         Form::Code => code(f),
-        Form::Movement => one_of(f, &[b"DELI", b"RECE"]),
-        Form::Payment => one_of(f, &[b"APMT", b"FREE"]),
         Form::Transaction => letters(f, 4),
-        Form::Wish => one_of(f, &[b"Y", b"N"]),
         Form::Currency => letters(f, 3),
     }
 }
 
-// A field of a row; an empty one gives 0, where it may be empty.
+// A field of a row; an empty one gives 0, where it may be empty: `Some(0)`, not an Option in it, since the meaning has
+// one number for a field, and no field that is filled gives 0.
 pub fn field_value(f: &[u8], field: Field) -> Option<u32>
     ensures { result ≡ read (field_of field) f.now }
 {

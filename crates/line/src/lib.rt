@@ -5,25 +5,13 @@ mod forms;
 mod reading;
 
 ghost use Rattle.std.specs.Prelude.{◌≡◌};
-ghost use Rattle.meaning.specs.Fields.{is_digit, is_capital, allowed};
+ghost use Rattle.meaning.specs.Fields.{allowed};
 
 pub use reading::{Line, read_line};
-
-fn is_digit(c: u8) -> bool
-    ensures { result ≡ is_digit c }
-{
-    (b'0'..=b'9').contains(&c)
-}
-
-fn is_capital(c: u8) -> bool
-    ensures { result ≡ is_capital c }
-{
-    (b'A'..=b'Z').contains(&c)
-}
 
 // Only digits, capital ASCII letters and commas occur.
 fn allowed(c: u8) -> bool
     ensures { result ≡ allowed c }
 {
-    is_digit(c) || is_capital(c) || c == b','
+    c.is_ascii_digit() || c.is_ascii_uppercase() || c == b','
 }

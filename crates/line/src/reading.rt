@@ -1,6 +1,6 @@
 // Reads a line of bytes: refusals 2 to 5, or its letter and the numbers of its fields (document 01, 'Lines' and the
 // refusals).
-ghost use Rattle.std.specs.Prelude.{◌≡◌, [], ◌∷◌, drop};
+ghost use Rattle.std.specs.Prelude.{◌≡◌, [], ◌∷◌, drop, Some};
 ghost use Rattle.std.specs.Option.{option_map};
 ghost use Rattle.tables.specs.Count.{has};
 ghost use Rattle.meaning.specs.Fields.{within, well_made, fields};
@@ -52,7 +52,9 @@ fn first_shape(letter: u8, count: usize) -> Option<Shape>
 
 // ---- a line
 
-// A line that is read: the letter, as its byte; the numbers of the fields after it, and zeros after them.
+// A line that is read: the letter, as its byte; the numbers of the fields after it, and zeros after them. Numbers by
+// value in a row of fixed length, as document 01 has no heap in the pre-check and the meaning pads them to sixteen. The
+// letter and not the `Shape`, as `command_of` takes any letter: with a `Shape` it would ask more of its callers.
 #[derive(Clone, Copy, Debug, PartialEq, Eq)]
 pub struct Line {
     pub letter: u8,
@@ -72,21 +74,16 @@ fn read_values(line: &[u8], shape: Shape, comma: usize) -> Option<[u32; 16]>
     Some(values)
 }
 
-// 4: no row has the letter and that many fields; 5: a field is outside its form or range.
-fn by_shape(line: &[u8], comma: usize, shape: Option<Shape>) -> Result<Line, Refusal>
-    ensures { result ≡ line_of (by_shape (option_map row_of shape) (more (drop comma line.now))) }
+// 5: a field is outside its form or range. The whole line is lent, as its reader takes it with an index.
+fn by_shape(line: &[u8], comma: usize, shape: Shape) -> Result<Line, Refusal>
+    ensures { result ≡ line_of (by_shape (Some (row_of shape)) (more (drop comma line.now))) }
 {
-    let Some(shape) = shape else {
-        return Err(Refusal::FieldCount);
-    };
     let letter = shape.letter();
-    let Some(values) = read_values(line, shape, comma) else {
-        return Err(Refusal::BadField);
-    };
+    let values = read_values(line, shape, comma).ok_or(Refusal::BadField)?;
     Ok(Line { letter, values })
 }
 
-// 3: the first field isn't a letter of the table. A letter is one byte.
+// 3: the first field isn't a letter of the table; 4: no row has the letter and that many fields. A letter is one byte.
 fn by_fields(line: &[u8]) -> Result<Line, Refusal>
     ensures { result ≡ line_of (by_fields (fields line.now)) }
 {
@@ -96,10 +93,11 @@ fn by_fields(line: &[u8]) -> Result<Line, Refusal>
         return Err(Refusal::NoLetter);
     }
     let count = LineReader::new(line, comma).count();
-    by_shape(line, comma, first_shape(letter, count))
+    let shape = first_shape(letter, count).ok_or(Refusal::FieldCount)?;
+    by_shape(line, comma, shape)
 }
 
-// A line has 1 to 80 bytes.
+// A line has 1 to 80 bytes. The range has a name, as the proof of `well_made` cites it.
 fn is_length(len: usize) -> bool
     ensures { result ≡ within 1 80 len }
 {

@@ -26,17 +26,25 @@ fn show_lines(rt: &impl Print, text: &[u8]) -> io::Result<()> {
     Ok(())
 }
 
+// `precheck_main` and `calls` have two lines like these; a crate for them would be no plainer.
 fn show_answer(rt: &impl Print, answer: Answer) -> io::Result<()> {
     rt.write_all(text::print(answer).as_slice())?;
     rt.write_all(b"\n")
 }
 
-fn verdict(rejected: bool, a: Deciding, b: Deciding, c: Deciding) -> Verdict {
+fn by(number: u8, sequence: u8) -> Option<Deciding> {
+    Some(Deciding { number, sequence })
+}
+
+fn verdict(
+    rejection: Option<Deciding>,
+    validation: Option<Deciding>,
+    party: Option<Deciding>,
+) -> Verdict {
     Verdict {
-        rejected,
-        rejection: a,
-        validation: b,
-        party: c,
+        rejection,
+        validation,
+        party,
     }
 }
 
@@ -44,53 +52,17 @@ fn main(rt: HostRuntime) -> io::Result<()> {
     let mut text = [0u8; 65536];
     let n = read_full(&mut rt.reader(), &mut text)?;
     show_lines(&rt, &text[..n])?;
-    let none = Deciding {
-        number: 0,
-        sequence: 0,
-    };
     show_answer(&rt, Answer::Taken)?;
     show_answer(&rt, Answer::Refused(Refusal::AlreadyHeld))?;
     show_answer(&rt, Answer::Refused(Refusal::QuotaFull))?;
-    let held = Deciding {
-        number: 9,
-        sequence: 5,
-    };
-    let accepted = verdict(false, none, none, none);
-    show_answer(&rt, Answer::Judged(verdict(false, none, none, held)))?;
+    let accepted = verdict(None, None, None);
+    show_answer(&rt, Answer::Judged(verdict(None, None, by(9, 5))))?;
     show_answer(&rt, Answer::Judged(accepted))?;
     show_answer(
         &rt,
-        Answer::Judged(verdict(
-            true,
-            Deciding {
-                number: 255,
-                sequence: 99,
-            },
-            Deciding {
-                number: 100,
-                sequence: 10,
-            },
-            Deciding {
-                number: 9,
-                sequence: 1,
-            },
-        )),
+        Answer::Judged(verdict(by(255, 99), by(100, 10), by(9, 1))),
     )?;
     show_answer(&rt, Answer::WithStatus(accepted, false))?;
-    let longest = verdict(
-        true,
-        Deciding {
-            number: 255,
-            sequence: 199,
-        },
-        Deciding {
-            number: 200,
-            sequence: 210,
-        },
-        Deciding {
-            number: 220,
-            sequence: 230,
-        },
-    );
+    let longest = verdict(by(255, 199), by(200, 210), by(220, 230));
     show_answer(&rt, Answer::WithStatus(longest, true))
 }

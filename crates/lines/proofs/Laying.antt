@@ -1,10 +1,10 @@
 -- Bytes put into a space.
-use Prim.Native.Nat.{ℕ, zero, suc, ◌+◌, ◌-◌, ◌≤◌, ◌<◌, min}
+use Prim.Native.Nat.{ℕ, zero, suc, ◌+◌, ◌-◌, min}
 use mathlib.Core.Path.{◌≡◌, refl, ap, ◌∙◌}
 use mathlib.Core.List.{List, [], ◌∷◌, ◌++◌}
 use native.Mathlib.Omega.{arith}
-use lib.ListN.{length, get_or, set, take, drop, length-set, length-take, length-drop}
-use lib.Seq.{paste, paste-zero, paste-suc, take-length, take_all}
+use lib.ListN.{length, take, drop, length-take, length-drop}
+use lib.Seq.{take_all}
 use borrow.Rule.Slice.PartMut.{put_mid}
 use Rattle.std.specs.List.{copy_within}
 use Rattle.std.proofs.lemmas.List.{drop_min}
@@ -22,32 +22,6 @@ laid_part o ys t at k e h =
     put_mid-paste at k o ys t k e refl h
     ∙ ap (λ z. take at o ++ z ++ drop (at + k) o) (take_all k t (omega arith))
     ∙ ap (λ n. take at o ++ t ++ drop (at + n) o) h
-
--- o is d with the first i bytes of s at an index
-pub record Copied (d s : List ℕ) (at : ℕ) (o : List ℕ) (i : ℕ) : Type 0 where
-  pub whole : o ≡ paste d at s i
-  pub few : i ≤ length s
-  pub size : length o ≡ length d
-
-module _ (d s : List ℕ) (at : ℕ) where
-  pub none_copied : Copied d s at d 0
-  none_copied = record { whole = paste-zero d at s; few = omega arith; size = refl }
-
-  pub one_copied : {o : List ℕ} {i : ℕ} → Copied d s at o i → i < length s → at + length s ≤ length d
-      → Copied d s at (set o (at + i) (get_or s i 0)) (i + 1)
-  one_copied {o} {i} c h f =
-      let e : i + 1 ≡ suc i = omega arith in
-      record {
-        whole = rw (c.whole, e) (paste-suc d at s i 0 (omega arith) h);
-        few = omega arith;
-        size = length-set o (at + i) (get_or s i 0) ∙ c.size;
-      }
-
-  pub all_copied : {o : List ℕ} {i : ℕ} → Copied d s at o i → length s ≤ i → o ≡ laid d at s
-  unfolding laid
-  all_copied {o} {i} c h =
-      let e : i ≡ length s = omega (arith, c.few) in
-      c.whole ∙ ap (paste d at s) e ∙ ap (λ t. take at d ++ t ++ drop (at + length s) d) (take-length s)
 
 -- ---- the begun line moved to the front
 

@@ -41,6 +41,13 @@ pub struct Step {
     pub written: usize,
 }
 
+// The answers stand one behind the other in a space that the caller lends, since there is no heap. So the functions
+// take it with the index up to which it is written, which is answered too; with the part from there on, each caller
+// would add what stands in front. `batches` has functions of these names that fill 32 bytes instead: they share
+// `answer` and `print`, and one function for both forms of an answer would take the form as a closure and be no
+// plainer. Book, text and answer space are three lent slices and no struct: callers lend them from arrays of their own,
+// and a struct would be taken apart again in each function.
+
 // Whether an answer of any length fits from an index on.
 fn has_room(out: &[u8], at: usize) -> bool
     ensures { result ≡ leb (at + 33) (length out.now) }
@@ -91,7 +98,8 @@ fn answer_lines(book: &mut [u8], text: &[u8], sound: bool, out: &mut [u8]) -> Pr
 }
 
 // Answers the ended lines of a text one by one, as `submit` does, and writes the answers into a lent space. Whether the
-// book is sound is found once: an accepted edit leaves it sound.
+// book is sound is found once: an accepted edit leaves it sound. `precheck::submit` does so for one line; what they
+// share is one call.
 pub fn submit_lines(book: &mut [u8], text: &[u8], out: &mut [u8]) -> Progress
     ensures exactly { Answered book.old text.now out.old result book.new out.new }
     ensures meaning { SentLines book.old text.now out.old result book.new out.new }
@@ -103,7 +111,8 @@ pub fn submit_lines(book: &mut [u8], text: &[u8], out: &mut [u8]) -> Progress
 // ---- the begun line
 
 // Moves the bytes from an index up to another to the front of a text and returns how many they are: the line that is
-// begun, which goes on with what is read next. Of more than 81 bytes it keeps 81.
+// begun, which goes on with what is read next. Of more than 81 bytes it keeps 81. The whole text is lent, as its front
+// is written and its part read.
 fn keep(text: &mut [u8], from: usize, to: usize) -> usize
     ensures { Keeps text.old from to result text.new }
 {
@@ -116,7 +125,7 @@ fn keep(text: &mut [u8], from: usize, to: usize) -> usize
 
 // ---- a desk
 
-// Whether the answers to a text of n bytes fit: 33 bytes for each.
+// Whether the answers to a text of n bytes fit: 33 bytes for each. The n is no place in the answer space.
 fn has_room_for(out: &[u8], n: usize) -> bool
     ensures { result ≡ leb (33 * n) (length out.now) }
 {

@@ -7,15 +7,14 @@ use native.Mathlib.Nat.{pow-succ'}
 use native.Mathlib.Omega.{arith}
 use lib.Bits.{bit_and, bit_or, and_mask, or_step, or_zero_r, or_lt}
 use lib.Dec.{eqb, ltb, eqb-suc-suc}
-use lib.ListN.{get_or, set, get_or-eq_default}
+use lib.ListN.{get_or-eq_default}
 use lib.Pow.{shr-shr}
 use borrow.Author.Tests.{eq-eqb, ne_eqb, eqb-false, ltb-true, ltb-false}
 use Rattle.std.proofs.lemmas.Nat.{div-add-mod', div_below, le-div, pow_below, one_shl}
 use Rattle.tables.specs.Below.{any_below}
 use Rattle.tables.specs.Keyed.{hits, entry, keys, Keyed}
 use Rattle.tables.proofs.Counts.{cases, cases_eq}
-use Rattle.tables.proofs.Keying.{place_other}
-use Rattle.marks.specs.Flags.{weight, flag, with_flag, flagged, after_flag}
+use Rattle.marks.specs.Flags.{weight, flag, with_flag, flagged}
 
 -- ---- one entry
 
@@ -109,18 +108,6 @@ module _ (per : ℕ) where
       (λ e. rw e h))
   flag_more true false k m x r h = h
   flag_more false o k m x r h = h
-
-  -- What one place leaves: c is read first. If it is a, x is read; k is its key and v whether it is on.
-  module _ {P : Type 0} (csd : P → ℕ) (a : ℕ) (key : P → ℕ) (on : P → Bool) where
-    pub flag_own : (y x : P) (t t' : List ℕ) (c k : ℕ) (v : Bool)
-        → t' ≡ cond v (set t (k / per) (with_flag (k % per) (get_or t (k / per) 0))) t → v ≡ on x → k ≡ key x → x ≡ y
-        → c ≡ csd y → c ≡ a → t' ≡ after_flag per csd a key on y t
-    unfolding after_flag
-    flag_own y x t t' c k v et ev ek ex ec eo = rw (eq-eqb (csd y) a (sym ec ∙ eo)) (et ∙ rw (ev, ek, ex))
-
-    pub flag_other : (y : P) (t : List ℕ) (c : ℕ) → c ≡ csd y → (c ≡ a → ⊥) → t ≡ after_flag per csd a key on y t
-    unfolding after_flag
-    flag_other y t c ec d = place_other csd a (λ p. key p / per) on (λ p m. with_flag (key p % per) m) y t c ec d
 
   module _ {P : Type 0} (size : ℕ) (csd : P → ℕ) (a : ℕ) (at : ℕ → P) (key : P → ℕ) (on : P → Bool) where
     -- Flag k % per of the entry at k / per tells whether a place hits the key k.

@@ -1,8 +1,8 @@
 // Tables of numbers that are addressed by key: marks, one to an entry, and flags, several to an entry, so that fewer
-// bytes are cleared. Past its end a table has neither.
+// bytes are cleared. Past its end a table has neither. They are arrays, since there is no heap for a map.
 #![tactic(auto)]
 
-ghost use Rattle.std.specs.Prelude.{ℕ, ◌+◌, ◌*◌, ◌/◌, ◌%◌, ◌<◌, ◌≤◌, ◌≡◌, cond, set, get_or, refl};
+ghost use Rattle.std.specs.Prelude.{ℕ, ◌+◌, ◌*◌, ◌/◌, ◌%◌, ◌<◌, ◌≤◌, ◌≡◌, set, get_or, refl};
 ghost use Rattle.std.proofs.lemmas.Bool.{leb-false, leb-true};
 ghost use Rattle.tables.specs.Keyed.{marked, Blank};
 ghost use Rattle.marks.specs.Flags.{flag, with_flag, flagged};
@@ -29,11 +29,11 @@ pub fn is_marked(t: &[u8], k: usize) -> bool
     byte_at(t, k) == 1
 }
 
-// Stores a number at a key, if asked to, and nothing past the end.
-pub fn store(t: &mut [u8], k: usize, on: bool, v: u8)
-    ensures { t.new ≡ cond on (set t.old k v) t.old }
+// Stores a number at a key, and nothing past the end.
+pub fn store(t: &mut [u8], k: usize, v: u8)
+    ensures { t.new ≡ set t.old k v }
 {
-    if on && k < t.len() {
+    if k < t.len() {
         t[k] = v;
     }
 }
@@ -93,10 +93,10 @@ pub fn is_flagged<F: Flags>(t: &[u8], k: usize) -> bool
     has_flag::<F>(byte_at(t, k / F::N), k)
 }
 
-// Stores the flag of a key, if asked to, and nothing past the end.
-pub fn store_flag<F: Flags>(t: &mut [u8], k: usize, on: bool)
-    ensures { t.new ≡ cond on (set t.old (k / F.N) (with_flag (k % F.N) (get_or t.old (k / F.N) 0))) t.old }
+// Stores the flag of a key, and nothing past the end.
+pub fn store_flag<F: Flags>(t: &mut [u8], k: usize)
+    ensures { t.new ≡ set t.old (k / F.N) (with_flag (k % F.N) (get_or t.old (k / F.N) 0)) }
 {
     let entry = byte_at(t, k / F::N);
-    store(t, k / F::N, on, with_flag::<F>(entry, k));
+    store(t, k / F::N, with_flag::<F>(entry, k));
 }

@@ -1,19 +1,15 @@
 -- Laws of a row's values: that each value is met exactly as the written meaning asks.
 use Prim.Native.Nat.{ℕ, zero, suc}
 use mathlib.Core.Path.{◌≡◌, refl, ap, sym, ◌∙◌}
-use mathlib.Core.Bool.{Bool, true, false, ◌&&◌, ◌||◌, and-true}
+use mathlib.Core.Bool.{Bool, true, false, ◌&&◌, ◌||◌, and-true, and-false, true≢false}
 use mathlib.Core.List.{List, [], ◌∷◌}
 use native.Mathlib.Omega.{arith}
 use lib.Dec.{eqb}
-use lib.ListN.{length, get_or, length-replicate, get_or-replicate}
-use Rattle.tables.specs.Bytes.{zeros}
-use Rattle.tables.specs.Keyed.{Blank}
+use lib.ListN.{length, get_or}
 use borrow.Author.Tests.{ne_eqb}
 use Rattle.tables.specs.Count.{all_below}
 use Rattle.meaning.specs.Judging.{meets_all}
-use Rattle.marks.specs.Flags.{flagged}
-use Rattle.matching.specs.MatchedRows.{kinds, codes_borne, test_at, values_met, RowsMarked}
-use Rattle.commands.specs.declared.Question.{Question}
+use Rattle.matching.specs.MatchedRows.{test_at, values_met}
 
 and_assoc : (a b d : Bool) → ((a && b) && d) ≡ (a && (b && d))
 and_assoc true b d = refl
@@ -40,8 +36,14 @@ unfolding values_met
 row_met fs vs a b =
     sym (each_met fs vs (a ∙ sym b) ∙ ap (λ n. all_below (λ i. eqb (get_or vs i 0) 0 || test_at fs i (get_or vs i 0)) n) b)
 
--- ---- the rows, by the codes that are borne
+-- ---- the codes are asked last, and only where the rest is met: x are the tests before them, m the one behind
 
-pub by_codes : (b : List ℕ) (q : Question) (codes t₀ t : List ℕ) → RowsMarked (length t₀) b q (flagged kinds codes) t
-    → flagged kinds codes ≡ codes_borne b q → RowsMarked (length t₀) b q (codes_borne b q) t
-by_codes b q codes t₀ t m e = rw e at m
+pub codes_asked : (x m a b c : Bool) → (x && m) ≡ true → (a && b && c) ≡ (x && a && b && c && m)
+codes_asked true true a b c e = sym (and-true (a && b && c))
+codes_asked true false a b c e = absurd (true≢false (sym e))
+codes_asked false m a b c e = absurd (true≢false (sym e))
+
+pub codes_unasked : (x m a b c : Bool) → (x && m) ≡ false → (x && m) ≡ (x && a && b && c && m)
+codes_unasked true true a b c e = absurd (true≢false e)
+codes_unasked true false a b c e = sym (and-false (a && b && c))
+codes_unasked false m a b c e = refl

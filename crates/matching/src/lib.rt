@@ -7,16 +7,18 @@ ghost use Rattle.meaning.specs.Judging.{covers};
 ghost use Rattle.marks.specs.Flags.{with_flag, flagged};
 ghost use Rattle.matching.specs.MatchedRows.{kinds, code_key, rule_key, code_entries, sought, borne_by, period_key, row_key, codes_borne, tests, values_met, row_matches, RowsMarked};
 
+use basics::byte_at;
 use commands::Question;
 use marks::{Flags, Four, blank, is_flagged, key, with_flag};
 use passes::{Pass, run};
 use places::{Period, Row};
 
-// The keys of a code, one for each kind and 0; in the table of codes they are the flags of one entry.
+// The keys of a code, one for each kind and 0; in the table of codes they are the flags of one entry: the number
+// of `Four` once more, since a const argument is not computed.
 const KINDS: u8 = 4;
 
 // The sequences of a type's rules are below this number.
-const SEQUENCES: u8 = 100;
+pub const SEQUENCES: u8 = 100;
 
 // The sizes of the tables.
 const CODE_ENTRIES: usize = 10000;
@@ -68,16 +70,11 @@ impl Pass for Codes {
 
     // A period of the question's party, account or security that covers the day.
     #[tactic(auto, unfolding(crate::specs::MatchedRows::borne_by))]
-    fn is_on(&self, p: Period) -> bool {
-        p.number == sought(self.q, p.kind) && covers(p.first, p.last, self.q.day)
-    }
-
-    fn key(&self, p: Period) -> usize {
-        key::<KINDS>(p.code, p.kind) / Four::N
-    }
-
-    fn entry(&self, p: Period, before: u8) -> u8 {
-        with_flag::<Four>(before, key::<KINDS>(p.code, p.kind))
+    fn entry(&self, p: Period, t: &[u8]) -> Option<(usize, u8)> {
+        let k = key::<KINDS>(p.code, p.kind);
+        let at = k / Four::N;
+        let borne = p.number == sought(self.q, p.kind) && covers(p.first, p.last, self.q.day);
+        borne.then_some((at, with_flag::<Four>(byte_at(t, at), k)))
     }
 }
 
@@ -105,7 +102,8 @@ fn is_borne(v: u32, kind: u8, codes: &[u8]) -> bool
     v == 0 || is_flagged::<Four>(codes, key::<KINDS>(v, kind))
 }
 
-// Whether each filled value is met. All ten are asked, by `&`: each is a call, and the proof takes them together.
+// Whether each filled value is met; the codes, which are looked up, are asked last. By `&` within a group, since the
+// proof takes its tests together.
 fn values_met(values: [u32; 10], q: Question, codes: &[u8]) -> bool
     ensures { result ≡ values_met (tests q (flagged kinds codes.now)) values }
 {
@@ -122,16 +120,16 @@ fn values_met(values: [u32; 10], q: Question, codes: &[u8]) -> bool
         security_code,
         currency,
     ] = values;
-    is_met(role, q.role)
+    let own = is_met(role, q.role)
         & is_met(movement, q.movement)
         & is_met(payment, q.payment)
         & is_met(transaction, q.transaction)
         & is_met(security, q.security)
         & is_met(account, q.account)
-        & is_borne(party_code, Period::PARTY, codes)
+        & is_met(currency, q.currency);
+    own && is_borne(party_code, Period::PARTY, codes)
         & is_borne(account_code, Period::ACCOUNT, codes)
         & is_borne(security_code, Period::SECURITY, codes)
-        & is_met(currency, q.currency)
 }
 
 // The marks of the rules of which a row matches a question, by the codes that it bears.
@@ -148,20 +146,11 @@ impl<'a> Pass for Rows<'a> {
 
     ghost key = { λ s w. row_key w };
 
-    ghost entry = { λ s w m. 1 };
-
     // A row without a filled value matches; a sound book has none.
     #[tactic(auto, unfolding(crate::specs::MatchedRows::row_matches))]
-    fn is_on(&self, w: Row) -> bool {
-        w.object == self.q.object && values_met(w.values, self.q, self.codes)
-    }
-
-    fn key(&self, w: Row) -> usize {
-        rule_key(w.number, w.sequence)
-    }
-
-    fn entry(&self, _w: Row, _before: u8) -> u8 {
-        1
+    fn entry(&self, w: Row, _t: &[u8]) -> Option<(usize, u8)> {
+        let matches = w.object == self.q.object && values_met(w.values, self.q, self.codes);
+        matches.then_some((rule_key(w.number, w.sequence), 1))
     }
 }
 
@@ -171,6 +160,5 @@ pub fn mark_rules(t: &mut [u8], b: &[u8], q: Question)
 {
     let mut codes: [u8; CODE_ENTRIES] = blank();
     codes_borne(&mut codes, b, q);
-    let rows = Rows { q, codes: &codes };
-    run(&rows, t, b, q.csd);
+    run(&Rows { q, codes: &codes }, t, b, q.csd);
 }

@@ -1,8 +1,5 @@
 -- The edges that request a) of document 02 names, by computation. Assumes nothing.
-use mathlib.Core.Path.{◌≡◌, refl}
-use mathlib.Core.List.{[], ◌∷◌, ◌++◌}
-use Rattle.std.specs.Prelude.{Ok, Err}
-use lib.ListN.{replicate}
+use Rattle.std.proofs.Common.{◌≡◌, refl, [], ◌∷◌, ◌++◌, Ok, Err, replicate}
 use Rattle.meaning.specs.Text.{bytes}
 use Rattle.meaning.specs.Records.{empty}
 use Rattle.meaning.specs.Batch.{batch_result, batch_lines, space_after}

@@ -1,6 +1,6 @@
 -- A book with a list changed: the facts of the others stay as they are. A lemma for each list, and one for the two that
 -- O changes together.
-use mathlib.Core.List.{List}
+use Rattle.std.proofs.Common.{List}
 use Rattle.meaning.specs.Records.{TypeRecord, Rule, Row, Period, Book}
 use Rattle.meaning.specs.Edits.{with_types, with_rules, with_rows, with_periods}
 use Rattle.meaning.proofs.Listed.{Listed}

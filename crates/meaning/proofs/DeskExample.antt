@@ -1,7 +1,5 @@
 -- Document 01's desk example, by computation: the whole output of the whole input. Assumes nothing.
-use mathlib.Core.Path.{◌≡◌, refl}
-use Prim.Native.Nat.{ℕ}
-use mathlib.Core.List.{List, [], ◌∷◌, ◌++◌}
+use Rattle.std.proofs.Common.{◌≡◌, refl, ℕ, List, [], ◌∷◌, ◌++◌}
 use Rattle.meaning.specs.Text.{bytes}
 use Rattle.meaning.specs.Lone.{answers, lone_answers}
 use Rattle.meaning.specs.Desk.{lines_of, output}

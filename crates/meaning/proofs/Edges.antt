@@ -1,8 +1,5 @@
 -- The edges that document 01 names, by computation. Assumes nothing.
-use mathlib.Core.Path.{◌≡◌, refl}
-use Prim.Native.Nat.{ℕ, zero, suc}
-use mathlib.Core.List.{List, [], ◌∷◌, ◌++◌, map}
-use lib.ListN.{replicate}
+use Rattle.std.proofs.Common.{◌≡◌, refl, ℕ, zero, suc, List, [], ◌∷◌, ◌++◌, map, replicate}
 use Rattle.meaning.specs.Text.{bytes}
 use Rattle.meaning.specs.Forms.{shape_r}
 use Rattle.meaning.specs.Records.{positive}

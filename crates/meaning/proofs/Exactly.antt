@@ -1,10 +1,5 @@
 -- No test counts two lists differently exactly if each record is in both equally often.
-use Prim.Native.Nat.{ℕ, zero, suc, ◌+◌, ◌≤◌, ◌<◌}
-use mathlib.Core.Path.{◌≡◌, refl, ap, sym, ◌∙◌}
-use mathlib.Core.Bool.{Bool, true, false, ◌&&◌, not, cond}
-use mathlib.Core.List.{List, [], ◌∷◌}
-use native.Mathlib.Omega.{arith}
-use lib.ListN.{length, drop}
+use Rattle.std.proofs.Common.{ℕ, zero, suc, ◌+◌, ◌≤◌, ◌<◌, ◌≡◌, refl, ap, sym, ◌∙◌, Bool, true, false, ◌&&◌, not, cond, List, [], ◌∷◌, arith, length, drop}
 use Rattle.tables.specs.Count.{bit, count, keep, Same}
 use Rattle.tables.proofs.Counts.{cases, count_keep, count_ext}
 use Rattle.meaning.specs.Records.{TypeRecord, Rule, Row, Period, ◌!◌}

@@ -1,10 +1,6 @@
 -- The two desks: one enters rule 5 again as 5, the other as 9 behind a broader rule 7. What is stated of every book, of
 -- theirs: its conditions are met, by computation.
-use Prim.Native.Nat.{ℕ}
-use mathlib.Core.Path.{◌≡◌, refl}
-use mathlib.Core.Bool.{true}
-use mathlib.Core.List.{List, [], ◌∷◌, map}
-use native.Mathlib.Omega.{arith}
+use Rattle.std.proofs.Common.{ℕ, ◌≡◌, refl, true, List, [], ◌∷◌, map, arith}
 use Rattle.tables.specs.Count.{count, has, least, change}
 use Rattle.meaning.specs.Text.{bytes, word}
 use Rattle.meaning.specs.Records.{Rule, Row, Book, Question, empty, positive}

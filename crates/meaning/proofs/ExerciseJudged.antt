@@ -1,8 +1,6 @@
 -- How a question is judged when a rule and its rows have another sequence: each rule applies as it did, so only the
 -- sequence that is named can differ.
-use Prim.Native.Nat.{ℕ}
-use mathlib.Core.Path.{◌≡◌, refl, ap₂, sym, ◌∙◌}
-use mathlib.Core.Bool.{Bool, true, false, cond, not, ◌&&◌}
+use Rattle.std.proofs.Common.{ℕ, ◌≡◌, refl, ap₂, sym, ◌∙◌, Bool, true, false, cond, not, ◌&&◌}
 use borrow.Author.Tests.{not-true}
 use Rattle.tables.specs.Count.{has, every, change, least}
 use Rattle.tables.proofs.Counts.{cases}

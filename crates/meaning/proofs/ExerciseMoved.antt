@@ -1,20 +1,15 @@
 -- A rule moved to another sequence: what the answers to questions are then.
-use Prim.Native.Nat.{ℕ, ◌≤◌}
-use mathlib.Core.Path.{◌≡◌, refl, ap, sym, ◌∙◌}
-use mathlib.Core.Bool.{Bool, true, false, ◌&&◌, ◌||◌, false≢true}
-use native.Mathlib.Omega.{arith}
-use lib.Dec.{eqb}
-use borrow.Author.Tests.{eqb-true, eq-eqb, leb-true}
+use Rattle.std.proofs.Common.{ℕ, ◌≡◌, refl, ap, sym, ◌∙◌, Bool, true, false, ◌&&◌, ◌||◌, arith, eqb, eqb-true, eq-eqb}
+use mathlib.Core.Bool.{false≢true}
 use Rattle.tables.specs.Count.{has, least}
 use Rattle.tables.proofs.Counts.{cases, both, neither, ands}
 use Rattle.tables.proofs.Lists.{has_true, every_any, some_of}
 use Rattle.tables.proofs.Least.{least_agree, least_reached, least_among, least_apart}
-use Rattle.meaning.specs.Forms.{holds}
 use Rattle.meaning.specs.Records.{Rule, Book, Question, positive, negative, reorder}
 use Rattle.meaning.specs.Keys.{is_rule, of_rule}
 use Rattle.meaning.specs.Edits.{rule_moved, edited}
 use Rattle.meaning.specs.Judging.{matches, rule_applies, deciding, judged}
-use Rattle.meaning.specs.Sound.{key_fits, rule_fits}
+use Rattle.meaning.specs.Sound.{rule_fits}
 use Rattle.meaning.specs.Exercise.{
   same_rule,
   resequenced,
@@ -38,10 +33,6 @@ use Rattle.meaning.proofs.ExerciseJudged.{named_after, deciding_after}
 use Rattle.meaning.proofs.ExerciseOutIn.{same_rule_lem, only_it, only_it_lem, it_is}
 use Rattle.meaning.proofs.ExerciseWays.{Shifted, shifted, rule_from_one}
 use Rattle.meaning.proofs.ExerciseVerdict.{judged_by_lem, judged_own, types_stay, named_by, named_again, resequenced_same, all_stay}
-
-type_from_one : (r : Rule) → rule_fits r ≡ true → 1 ≤ r.type
-unfolding rule_fits key_fits holds
-type_from_one r e = leb-true 1 r.type (search ands)
 
 -- what a rule that applies is
 module _ (b : Book) (q : Question) (type sign : ℕ) (x : Rule) (e : rule_applies b q type sign x ≡ true) where
@@ -132,14 +123,14 @@ module _ {b : Book} {r : Rule} {new : ℕ} {c : Book} (m : Shifted b r new c) wh
     decided_before e =
         let d = both (eqb q.object r.object) (names_rule r.type r.sequence (judged b q)) e in (
           eqb-true q.object r.object d.0,
-          named_by r.type (type_from_one r held_fits) (deciding b q) r.sequence (judged b q)
+          named_by r.type (deciding b q) r.sequence (judged b q)
               (ap (names_rule r.type r.sequence) (sym (judged_own b q)) ∙ d.1),
         )
 
     -- what the answer after names by its type is the least with the moved rule at its new place
     decided_after : (k : ℕ) → names_rule r.type k (judged c q) ≡ true → deciding_moved b q r new r.type ≡ k
     decided_after k e =
-        named_by r.type (type_from_one r held_fits) (deciding_moved b q r new) k (judged b q)
+        named_by r.type (deciding_moved b q r new) k (judged b q)
         (ap (names_rule r.type k) (sym elsewhere) ∙ e)
 
     -- no rule of its type has the old sequence then
@@ -197,7 +188,7 @@ module _ {b : Book} {r : Rule} {new : ℕ} {c : Book} (m : Shifted b r new c) wh
     new_changes z t =
         let d = both (eqb q.object r.object) (names_rule r.type new (judged c q)) t in
         not_new (eqb-true q.object r.object d.0)
-        (named_by r.type (type_from_one r held_fits) (deciding b q) new (judged b q)
+        (named_by r.type (deciding b q) new (judged b q)
         (ap (names_rule r.type new) (sym (judged_own b q)) ∙ ap (names_rule r.type new) (sym z) ∙ d.1))
 
     changes : judged c q ≡ judged b q → (decides b q r || decides c q (rule_moved new r)) ≡ false
@@ -221,7 +212,7 @@ module _ {b : Book} {r : Rule} {new : ℕ} {c : Book} (m : Shifted b r new c) wh
         h in
         ap (λ k. names_rule r.type k (judged c q)) (sym z)
         ∙ ap (names_rule r.type (deciding_moved b q r new r.type)) elsewhere
-        ∙ named_again r.type (type_from_one r held_fits) (deciding b q) (deciding_moved b q r new) r.sequence (judged b q)
+        ∙ named_again r.type (deciding b q) (deciding_moved b q r new) r.sequence (judged b q)
         (ap (names_rule r.type r.sequence) (sym (judged_own b q)) ∙ (both (eqb q.object r.object) _ t).1)
 
 -- ---- the statements

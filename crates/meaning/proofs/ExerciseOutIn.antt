@@ -1,11 +1,7 @@
 -- A rule taken out with its rows and entered again under a sequence leaves the records that O leaves; under its own
 -- sequence, those that were there.
-use Prim.Native.Nat.{ℕ, ◌+◌}
-use mathlib.Core.Path.{◌≡◌, ap, sym, ◌∙◌}
-use mathlib.Core.Bool.{Bool, true, false, not, ◌&&◌}
-use mathlib.Core.List.{List, [], ◌∷◌, ◌++◌, map}
-use native.Mathlib.Omega.{arith}
-use borrow.Author.Tests.{eqb-true, not-true, not-false}
+use Rattle.std.proofs.Common.{ℕ, ◌+◌, ◌≡◌, ap, sym, ◌∙◌, Bool, true, false, not, ◌&&◌, List, [], ◌∷◌, ◌++◌, map, arith, eqb-true, None}
+use borrow.Author.Tests.{not-true, not-false}
 use Rattle.tables.specs.Count.{bit, count, has, every, without, change, Same}
 use Rattle.tables.proofs.Counts.{cases, ands, count_ext, count_keep, count_alter}
 use Rattle.tables.proofs.Lists.{has_true, has_false, every_any, every_none}
@@ -20,7 +16,6 @@ use Rattle.meaning.specs.SameBook.{SameBook}
 use Rattle.meaning.specs.Lone.{after_sent}
 use Rattle.meaning.specs.Exercise.{same_rule, out_and_in, PutBack, PutBackAnswers}
 use Rattle.meaning.specs.declared.Refusal.TheVariants.{NotFound, AlreadyHeld, Conflict}
-use Rattle.std.specs.Prelude.{None}
 use Rattle.meaning.proofs.First.{command_not_refused}
 use Rattle.meaning.proofs.Keys.{rule_key_lem, rule_self, of_key, row_key_lem}
 use Rattle.meaning.proofs.Listed.{count_less}

@@ -1,15 +1,13 @@
 -- Verdicts of the same types with other sequences: what they name.
-use Prim.Native.Nat.{ℕ, zero, suc, ◌≤◌}
-use mathlib.Core.Path.{◌≡◌, refl, ap, ap₂, sym, ◌∙◌, fun_ext}
-use mathlib.Core.Bool.{Bool, true, false, ◌&&◌, ◌||◌, or-true, false≢true}
-use native.Mathlib.Omega.{arith}
-use lib.Dec.{eqb}
-use borrow.Author.Tests.{eqb-true, eq-eqb}
+use Rattle.std.proofs.Common.{ℕ, zero, suc, ◌≡◌, refl, ap, ap₂, sym, ◌∙◌, Bool, true, false, ◌&&◌, ◌||◌, Option, Some, None, is_some, unwrap_or, eqb, eqb-true, eq-eqb}
+use mathlib.Core.Path.{fun_ext}
+use mathlib.Core.Bool.{or-true, false≢true}
 use Rattle.tables.specs.Count.{has, least}
 use Rattle.tables.proofs.Counts.{cases, both, neither}
 use Rattle.meaning.specs.Records.{Book, Question, rejection, validation_hold, party_hold}
 use Rattle.meaning.specs.Judging.{by, rule_applies, named, deciding, decided, verdict, judged}
-use Rattle.meaning.specs.Exercise.{sequenced, resequenced, SameTypes, is_deciding, names_rule}
+use Rattle.meaning.specs.Exercise.{sequenced, resequenced, type_named, SameTypes, is_deciding, names_rule}
+use Rattle.meaning.specs.declared.Deciding.{Deciding}
 use Rattle.meaning.specs.declared.Verdict.{Verdict}
 use Rattle.meaning.proofs.OrderJudged.{applies_alike}
 
@@ -17,10 +15,10 @@ use Rattle.meaning.proofs.OrderJudged.{applies_alike}
 
 -- a book that names the same types, with sequences by f
 module _ (b c : Book) (q : Question) (f : ℕ → ℕ) (d : (type : ℕ) → deciding c q type ≡ f type) where
-  decided_by : (type : ℕ) → decided c q type ≡ sequenced f (decided b q type).number
+  decided_by : (type : ℕ) → decided c q type ≡ sequenced f (decided b q type)
   unfolding decided
   decided_by zero = refl
-  decided_by (suc type) = ap (by (suc type)) (d (suc type))
+  decided_by (suc type) = ap (λ s. Some (by (suc type) s)) (d (suc type))
 
   verdict_by_lem : (type validating holding : ℕ)
       → verdict c q type validating holding ≡ resequenced f (verdict b q type validating holding)
@@ -51,17 +49,21 @@ module _ (b c : Book) (q : Question) (e : c.types ≡ b.types)
 
 -- ---- the types stay
 
-number_stays : (f : ℕ → ℕ) (n : ℕ) → (sequenced f n).number ≡ n
-number_stays f zero = refl
-number_stays f (suc n) = refl
+type_stays : (f : ℕ → ℕ) (d : Option Deciding) → type_named (sequenced f d) ≡ type_named d
+type_stays f None = refl
+type_stays f (Some d) = refl
+
+some_stays : (f : ℕ → ℕ) (d : Option Deciding) → is_some (sequenced f d) ≡ is_some d
+some_stays f None = refl
+some_stays f (Some d) = refl
 
 pub types_stay : (f : ℕ → ℕ) (v : Verdict) → SameTypes (resequenced f v) v
 unfolding resequenced
 types_stay f v = record {
-  rejected = refl;
-  rejection = number_stays f v.rejection.number;
-  validation = number_stays f v.validation.number;
-  party = number_stays f v.party.number;
+  rejected = some_stays f v.rejection;
+  rejection = type_stays f v.rejection;
+  validation = type_stays f v.validation;
+  party = type_stays f v.party;
 }
 
 -- ---- which rule is named
@@ -70,39 +72,43 @@ pub either : {P : Type 0} (a b : Bool) → (a || b) ≡ true → (a ≡ true →
 either true b e y n = y refl
 either false b e y n = n e
 
-module _ (type : ℕ) (some_type : 1 ≤ type) where
+module _ (type : ℕ) where
   -- a type that is named stands there, with its sequence
-  it_number : (f : ℕ → ℕ) (k n : ℕ) → is_deciding type k (sequenced f n) ≡ true → (n ≡ type) × (f type ≡ k)
-  it_number f k zero t = absurd (omega (arith, eqb-true 0 type (both (eqb 0 type) (eqb 0 k) t).0))
-  it_number f k (suc n) t =
-      let c = both (eqb (suc n) type) (eqb (f (suc n)) k) t in
-      let z = eqb-true (suc n) type c.0 in
-      (z, ap f (sym z) ∙ eqb-true (f (suc n)) k c.1)
+  it_named : (f : ℕ → ℕ) (k : ℕ) (d : Option Deciding) → is_deciding type k (sequenced f d) ≡ true
+      → (type_named d ≡ Some type) × (f type ≡ k)
+  it_named f k None t = absurd (false≢true t)
+  it_named f k (Some d) t =
+      let c = both (eqb d.number type) (eqb (f d.number) k) t in
+      let z = eqb-true d.number type c.0 in
+      (ap Some z, ap f (sym z) ∙ eqb-true (f d.number) k c.1)
 
-  it_again : (f : ℕ → ℕ) (n : ℕ) → n ≡ type → is_deciding type (f type) (sequenced f n) ≡ true
-  it_again f zero z = absurd (omega arith)
-  it_again f (suc n) z = rw (eq-eqb (suc n) type z, eq-eqb (f (suc n)) (f type) (ap f z))
+  it_again : (f : ℕ → ℕ) (d : Option Deciding) → type_named d ≡ Some type → is_deciding type (f type) (sequenced f d) ≡ true
+  it_again f None e = absurd (false≢true (ap is_some e))
+  it_again f (Some d) e =
+      let z : d.number ≡ type = ap (λ o. unwrap_or o 0) e in
+      rw (eq-eqb d.number type z, eq-eqb (f d.number) (f type) (ap f z))
 
   pub named_by : (f : ℕ → ℕ) (k : ℕ) (v : Verdict) → names_rule type k (resequenced f v) ≡ true → f type ≡ k
   unfolding names_rule resequenced
   named_by f k v e =
-      either _ _ e (λ t. (it_number f k v.rejection.number t).1)
-      (λ e. either _ _ e (λ t. (it_number f k v.validation.number t).1) (λ t. (it_number f k v.party.number t).1))
+      either _ _ e (λ t. (it_named f k v.rejection t).1)
+      (λ e. either _ _ e (λ t. (it_named f k v.validation t).1) (λ t. (it_named f k v.party t).1))
 
   -- it is named by other sequences too
   pub named_again : (f g : ℕ → ℕ) (k : ℕ) (v : Verdict) → names_rule type k (resequenced f v) ≡ true
       → names_rule type (g type) (resequenced g v) ≡ true
   unfolding names_rule resequenced
   named_again f g k v e =
-      let again : (n : ℕ) → is_deciding type k (sequenced f n) ≡ true → is_deciding type (g type) (sequenced g n) ≡ true =
-      λ n t. it_again g n (it_number f k n t).0 in
-      either _ _ e (λ t. rw (again v.rejection.number t))
+      let again : (d : Option Deciding) → is_deciding type k (sequenced f d) ≡ true
+      → is_deciding type (g type) (sequenced g d) ≡ true =
+      λ d t. it_again g d (it_named f k d t).0 in
+      either _ _ e (λ t. rw (again v.rejection t))
       (λ e.
       either _ _ e
-      (λ t. rw (again v.validation.number t) (or-true (is_deciding type (g type) (sequenced g v.rejection.number))))
+      (λ t. rw (again v.validation t) (or-true (is_deciding type (g type) (sequenced g v.rejection))))
       (λ t.
-      rw (again v.party.number t, or-true (is_deciding type (g type) (sequenced g v.validation.number)))
-      (or-true (is_deciding type (g type) (sequenced g v.rejection.number)))))
+      rw (again v.party t, or-true (is_deciding type (g type) (sequenced g v.validation)))
+      (or-true (is_deciding type (g type) (sequenced g v.rejection)))))
 
 -- ---- two sequences of the same verdict
 
@@ -118,20 +124,20 @@ parted true a b c e = let d = neither a (b || c) e in let f = neither b c d.1 in
 module _ (f g : ℕ → ℕ) (type j k : ℕ) (on : Bool)
     (same : (n : ℕ) → (on && eqb n type) ≡ false → g n ≡ f n)
     (apart : (f type ≡ j → ⊥) → (g type ≡ k → ⊥) → g type ≡ f type) where
-  one_stays : (n : ℕ) → (on && is_deciding type j (sequenced f n)) ≡ false → (on && is_deciding type k (sequenced g n)) ≡ false
-      → sequenced g n ≡ sequenced f n
-  one_stays zero d e = refl
-  one_stays (suc n) d e =
-      ap (by (suc n))
-      (cases (on && eqb (suc n) type)
+  one_stays : (x : Option Deciding) → (on && is_deciding type j (sequenced f x)) ≡ false
+      → (on && is_deciding type k (sequenced g x)) ≡ false → sequenced g x ≡ sequenced f x
+  one_stays None d e = refl
+  one_stays (Some x) d e =
+      ap (λ s. Some (by x.number s))
+      (cases (on && eqb x.number type)
       (λ t.
-      let c = both on (eqb (suc n) type) t in
-      let z = eqb-true (suc n) type c.1 in
+      let c = both on (eqb x.number type) t in
+      let z = eqb-true x.number type c.1 in
       ap g z
-      ∙ apart (λ y. false≢true (sym (rw (c.0, c.1) at d) ∙ eq-eqb (f (suc n)) j (ap f z ∙ y)))
-      (λ y. false≢true (sym (rw (c.0, c.1) at e) ∙ eq-eqb (g (suc n)) k (ap g z ∙ y)))
+      ∙ apart (λ y. false≢true (sym (rw (c.0, c.1) at d) ∙ eq-eqb (f x.number) j (ap f z ∙ y)))
+      (λ y. false≢true (sym (rw (c.0, c.1) at e) ∙ eq-eqb (g x.number) k (ap g z ∙ y)))
       ∙ ap f (sym z))
-      (λ t. same (suc n) t))
+      (λ t. same x.number t))
 
   -- where neither names its rule of that type, both are one verdict
   pub all_stay : (v : Verdict) → (on && names_rule type j (resequenced f v)) ≡ false
@@ -141,7 +147,7 @@ module _ (f g : ℕ → ℕ) (type j k : ℕ) (on : Bool)
       let a = parted on _ _ _ d in
       let b = parted on _ _ _ e in
       rw (
-        one_stays v.rejection.number a.0 b.0,
-        one_stays v.validation.number a.1 b.1,
-        one_stays v.party.number a.2 b.2,
+        one_stays v.rejection a.0 b.0,
+        one_stays v.validation a.1 b.1,
+        one_stays v.party a.2 b.2,
       )

@@ -1,9 +1,6 @@
 -- Both ways to move a rule lead to the same records: those that O leaves.
-use Prim.Native.Nat.{ℕ, ◌≤◌}
-use mathlib.Core.Path.{◌≡◌, refl, ap, sym, ◌∙◌}
-use mathlib.Core.Bool.{true, false, false≢true}
-use mathlib.Core.List.{List}
-use borrow.Author.Tests.{leb-true}
+use Rattle.std.proofs.Common.{ℕ, ◌≤◌, ◌≡◌, refl, ap, sym, ◌∙◌, true, false, List, leb-true}
+use mathlib.Core.Bool.{false≢true}
 use Rattle.tables.specs.Count.{count, has, every}
 use Rattle.tables.proofs.Counts.{ands}
 use Rattle.meaning.specs.Forms.{holds, sequence_form}

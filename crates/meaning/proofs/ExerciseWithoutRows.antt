@@ -1,8 +1,5 @@
 -- A rule without rows applies to no question: entered or taken out, it changes no answer.
-use Prim.Native.Nat.{ℕ}
-use mathlib.Core.Path.{◌≡◌, refl, ap, sym, ◌∙◌}
-use mathlib.Core.Bool.{true, false, not}
-use mathlib.Core.List.{List, ◌∷◌}
+use Rattle.std.proofs.Common.{ℕ, ◌≡◌, refl, ap, sym, ◌∙◌, true, false, not, List, ◌∷◌}
 use Rattle.tables.specs.Count.{has, every, without, least}
 use Rattle.tables.proofs.Lists.{has_cons}
 use Rattle.tables.proofs.Least.{has_keep, least_keep}

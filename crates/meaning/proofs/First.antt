@@ -1,10 +1,7 @@
 -- No refusal is given exactly where no condition holds; what is not refused meets no condition, each found by its
 -- refusal.
-use mathlib.Core.Path.{◌≡◌, refl, ap, sym}
-use mathlib.Core.Bool.{Bool, true, false, cond, false≢true}
-use mathlib.Core.List.{List, [], ◌∷◌}
-use Rattle.std.specs.Prelude.{Option, Some, None, is_some}
-use lib.Dec.{eqb}
+use Rattle.std.proofs.Common.{◌≡◌, refl, ap, sym, Bool, true, false, cond, List, [], ◌∷◌, Option, Some, None, is_some, eqb}
+use mathlib.Core.Bool.{false≢true}
 use Rattle.tables.proofs.Counts.{cases}
 use Rattle.meaning.specs.Records.{Book, Command}
 use Rattle.meaning.specs.Refusals.{number_of, first_of, conditions, refusal}

@@ -1,12 +1,5 @@
 -- A sound lone book as facts, list by list, and back; books with the same records are sound alike.
-use Prim.Native.Nat.{ℕ, ◌/◌, ◌≤◌}
-use mathlib.Core.Path.{◌≡◌, ap, sym, ◌∙◌}
-use mathlib.Core.Bool.{Bool, true, ◌&&◌}
-use mathlib.Core.List.{List}
-use native.Mathlib.Omega.{arith}
-use lib.Dec.{leb, ltb}
-use lib.ListN.{length}
-use borrow.Author.Tests.{eq-eqb, leb-true, le-leb, ltb-true, ltb-false}
+use Rattle.std.proofs.Common.{ℕ, ◌/◌, ◌≤◌, ◌≡◌, ap, sym, ◌∙◌, Bool, true, ◌&&◌, List, arith, leb, ltb, length, eq-eqb, leb-true, le-leb, ltb-true, ltb-false}
 use Rattle.tables.specs.Count.{count, has, every}
 use Rattle.tables.proofs.Counts.{both, ands, agree, cases}
 use Rattle.tables.proofs.Lists.{some_of, every_both, every_map, count_under}

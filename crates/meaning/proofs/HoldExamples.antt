@@ -1,10 +1,7 @@
 -- Examples 1 to 6 of source document 004's 'Description of requested change', by computation. Party A is party 11,
 -- which has attribute code 101; party B's code is 102. ISIN X is security 30. Type 9 is the party hold, type 8 the
 -- validation hold. Assumes nothing.
-use mathlib.Core.Path.{◌≡◌, refl}
-use Prim.Native.Nat.{ℕ}
-use mathlib.Core.List.{List, [], ◌∷◌, ◌++◌, map}
-use lib.ListN.{replicate}
+use Rattle.std.proofs.Common.{◌≡◌, refl, ℕ, List, [], ◌∷◌, ◌++◌, map, replicate}
 use Rattle.meaning.specs.Text.{bytes}
 use Rattle.meaning.specs.Lone.{answers}
 use Rattle.meaning.specs.Printing.{printed}

@@ -1,25 +1,18 @@
 -- What a trainer may say of the status.
-use Prim.Native.Nat.{ℕ, zero, suc, ◌+◌, ◌≤◌, ◌<◌}
-use mathlib.Core.Path.{◌≡◌, refl, ap, sym, ◌∙◌}
-use mathlib.Core.Bool.{Bool, true, false, not, cond, false≢true}
-use mathlib.Core.List.{List, [], ◌∷◌, ◌++◌, append_assoc, append-nil}
-use mathlib.Core.Logic.{◌⊎◌, inl, inr, ⊎_elim}
-use Rattle.std.specs.Prelude.{Option, Some, None, is_some}
-use native.Mathlib.Omega.{arith}
-use lib.Dec.{eqb, leb}
-use lib.ListN.{length, get_or-append, get_or-eq_default}
-use lib.Seq.{get_or-append-add}
-use borrow.Author.Tests.{ne_eqb, eqb-true, leb-true}
+use Rattle.std.proofs.Common.{ℕ, zero, suc, ◌+◌, ◌≤◌, ◌<◌, ◌≡◌, refl, ap, sym, ◌∙◌, Bool, true, false, cond, List, [], ◌∷◌, ◌++◌, append_assoc, append-nil, ◌⊎◌, inl, inr, ⊎_elim, Option, Some, None, is_some, arith, leb, length, get_or-append-add, ne_eqb, eqb-true, leb-true}
+use mathlib.Core.Bool.{false≢true}
+use lib.ListN.{get_or-append, get_or-eq_default}
 use Rattle.tables.proofs.Counts.{both}
 use Rattle.meaning.specs.Fields.{within, fields}
 use Rattle.meaning.specs.Forms.{holds, holds_all, Letter, letter_q, shape_q, shape_q_wishes, shapes}
 use Rattle.meaning.specs.Records.{◌!◌, Book, Question, wish_of, command_of, question_in, ask, rejection, validation_hold, party_hold}
 use Rattle.meaning.specs.Reading.{Reading, refused, asks, reading}
-use Rattle.meaning.specs.Judging.{verdict, judged, named}
+use Rattle.meaning.specs.Judging.{rejected, verdict, judged, named}
 use Rattle.meaning.specs.Status.{is_on, status, carried, answer_to}
 use Rattle.meaning.specs.Printing.{text_of, numbers_of, listed, end_of, printed, status_text}
-use Rattle.meaning.specs.Exercise.{command_read, SameTypes}
+use Rattle.meaning.specs.Exercise.{command_read, type_named, SameTypes}
 use Rattle.meaning.specs.Holding.{HeldByRule, WishesDecide, RejectedGivesN, StatusByLength, SameQuestion, StatusLast, StatusStays}
+use Rattle.meaning.specs.declared.Deciding.{Deciding}
 use Rattle.meaning.specs.declared.Verdict.{Verdict}
 use Rattle.meaning.specs.declared.Wishes.{Wishes}
 use Rattle.meaning.specs.declared.Answer.TheVariants.{Judged, WithStatus}
@@ -51,12 +44,17 @@ none_where t a e = rw e
 
 pub rejected_gives_n : RejectedGivesN
 unfolding status
-rejected_gives_n v w = none_where v.rejected _
+rejected_gives_n v w = none_where (rejected v) _
+
+-- a hold is on where a type is named
+named_on : (d : Option Deciding) → is_some (type_named d) ≡ is_on d
+named_on None = refl
+named_on (Some d) = refl
 
 -- whether it is rejected and which type holds decide
 same_status : (v u : Verdict) (w : Wishes) → SameTypes v u → status v w ≡ status u w
 unfolding status
-same_status v u w s = rw (s.rejected, s.party)
+same_status v u w s = rw (s.rejected, sym (named_on v.party) ∙ ap is_some s.party ∙ named_on u.party)
 
 pub status_stays : StatusStays
 status_stays b r new lines m q w = same_status _ _ w (elsewhere_types b r new lines m q)

@@ -1,10 +1,6 @@
 -- A line in a batch: one of the batch's depository is answered as if sent alone, one of another gets 12 and leaves the
 -- lists.
-use Prim.Native.Nat.{ℕ}
-use mathlib.Core.Path.{◌≡◌, refl, ap, sym, ◌∙◌}
-use mathlib.Core.Bool.{Bool, true, false}
-use mathlib.Core.List.{List}
-use mathlib.Core.Logic.{◌⊎◌, inl, inr}
+use Rattle.std.proofs.Common.{ℕ, ◌≡◌, refl, ap, sym, ◌∙◌, Bool, true, false, List, ◌⊎◌, inl, inr}
 use Rattle.meaning.specs.Forms.{Letter}
 use Rattle.meaning.specs.Records.{◌!◌, Book, Command, command_of}
 use Rattle.meaning.specs.Reading.{Reading, refused, asks, reading}

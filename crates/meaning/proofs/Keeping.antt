@@ -1,17 +1,13 @@
 -- What the start of a day and a release do to a kept instruction: a hold stays on, and what no new rule matches stays.
-use Prim.Native.Nat.{ℕ, zero, suc}
-use mathlib.Core.Path.{◌≡◌, refl, ap, sym, ◌∙◌, fun_ext}
-use mathlib.Core.Bool.{Bool, true, false, not, cond, ◌&&◌, ◌||◌, and-false, or-true, or-false, false≢true}
-use mathlib.Core.List.{[]}
-use Rattle.std.specs.Prelude.{Option, Some, None}
-use lib.Dec.{eqb}
-use borrow.Author.Tests.{eqb-true, eq-eqb}
+use Rattle.std.proofs.Common.{ℕ, zero, suc, ◌≡◌, refl, ap, sym, ◌∙◌, Bool, true, false, not, cond, ◌&&◌, ◌||◌, [], Option, Some, None, eqb, eqb-true, eq-eqb}
+use mathlib.Core.Path.{fun_ext}
+use mathlib.Core.Bool.{and-false, or-true, or-false, false≢true}
 use Rattle.tables.specs.Count.{has}
 use Rattle.tables.proofs.Counts.{cases}
 use Rattle.tables.proofs.Lists.{every_any, has_among, keep_any}
 use Rattle.tables.proofs.Least.{has_under, least_none, has_none}
 use Rattle.meaning.specs.Records.{TypeRecord, Kept, Book, Question, rejection, validation_hold, party_hold, positive, negative}
-use Rattle.meaning.specs.Judging.{covers, matches, tests, rule_applies, applies, named, decided, verdict, judged, nobody}
+use Rattle.meaning.specs.Judging.{covers, matches, tests, rule_applies, applies, named, decided, verdict, rejected, judged}
 use Rattle.meaning.specs.Scope.{scoped, is_new}
 use Rattle.meaning.specs.Pending.{among, are_types, held_since, is_held, asking, exempts, exempted, passed_over, at_start, met, entered, start_verdict, start_exempted, started, released}
 use Rattle.meaning.specs.Keeping.{WholeBook, HoldStays, HoldDays, ReleasesOne, met_anew, LeftAsItWas, MemoryStays}
@@ -42,17 +38,17 @@ left false x y e = ap (or_else x) e
 pub start_left : (b : Book) (day : ℕ) (k k' : Kept) → started b day k ≡ Some k'
     → met (start_verdict b day k) (start_exempted b day k) day k ≡ k'
 unfolding started
-start_left b day k k' e = left (start_verdict b day k).rejected _ k' e
+start_left b day k k' e = left (rejected (start_verdict b day k)) _ k' e
 
 -- ---- a hold that is on
 
 -- where no type is named for a hold, the verdict does not put it on
-no_validation : (b : Book) (q : Question) (n h : ℕ) → (verdict b q n 0 h).validation ≡ nobody
+no_validation : (b : Book) (q : Question) (n h : ℕ) → (verdict b q n 0 h).validation ≡ None
 unfolding verdict decided
 no_validation b q zero h = refl
 no_validation b q (suc n) h = refl
 
-pub no_party : (b : Book) (q : Question) (n h : ℕ) → (verdict b q n h 0).party ≡ nobody
+pub no_party : (b : Book) (q : Question) (n h : ℕ) → (verdict b q n h 0).party ≡ None
 unfolding verdict decided
 no_party b q zero h = refl
 no_party b q (suc n) h = refl
@@ -74,14 +70,14 @@ module _ (b : Book) (day : ℕ) (k : Kept) where
   abbrev named_at : ℕ → ℕ
   named_at = named (scoped (at_start b day k) b) (asking day k)
 
-  validating_on : is_held k validation_hold ≡ true → (start_verdict b day k).validation ≡ nobody
+  validating_on : is_held k validation_hold ≡ true → (start_verdict b day k).validation ≡ None
   unfolding start_verdict judged
   validating_on e =
       ap (λ n. (verdict (scoped (at_start b day k) b) (asking day k) (named_at rejection) n (named_at party_hold)).validation)
       (held_passed b day k validation_hold e)
       ∙ no_validation (scoped (at_start b day k) b) (asking day k) (named_at rejection) (named_at party_hold)
 
-  holding_on : is_held k party_hold ≡ true → (start_verdict b day k).party ≡ nobody
+  holding_on : is_held k party_hold ≡ true → (start_verdict b day k).party ≡ None
   unfolding start_verdict judged
   holding_on e =
       ap (λ n. (verdict (scoped (at_start b day k) b) (asking day k) (named_at rejection) (named_at validation_hold) n).party)
@@ -149,7 +145,7 @@ without_key true true true true false m e = absurd (false≢true e)
 without_key true true true true true m e = e
 
 abbrev nothing : Verdict
-nothing = record { rejected = false; rejection = nobody; validation = nobody; party = nobody }
+nothing = record { rejection = None; validation = None; party = None }
 
 -- where no type is named, nothing is decided
 verdict_none : (b : Book) (q : Question) (n v h : ℕ) → n ≡ 0 → v ≡ 0 → h ≡ 0 → verdict b q n v h ≡ nothing

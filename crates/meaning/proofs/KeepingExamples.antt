@@ -1,10 +1,7 @@
 -- Source document 004, example 6, 'Revalidation at start of day', by computation: settlement instructions A and B under
 -- rules 1 and 2 of a CSD validation hold and rule 3 of a party hold. A is of security 30, which rule 1 names; rule 2
 -- names account 20, rule 3 party type 2. Assumes nothing.
-use Prim.Native.Nat.{ℕ}
-use mathlib.Core.Path.{◌≡◌, refl}
-use mathlib.Core.List.{List, [], ◌∷◌}
-use Rattle.std.specs.Prelude.{Option, Some, None}
+use Rattle.std.proofs.Common.{ℕ, ◌≡◌, refl, List, [], ◌∷◌, Option, Some, None}
 use Rattle.tables.specs.Count.{has, keep}
 use Rattle.meaning.specs.Text.{bytes, word}
 use Rattle.meaning.specs.Records.{Book, empty, Kept, Question}

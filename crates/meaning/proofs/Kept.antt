@@ -1,11 +1,6 @@
 -- A sound lone book stays sound under every accepted command, and so whatever the lines.
-use Prim.Native.Nat.{ℕ}
-use Rattle.std.specs.Prelude.{Option, Some, None}
-use mathlib.Core.Path.{◌≡◌, refl}
-use mathlib.Core.Bool.{true}
-use mathlib.Core.List.{List, [], ◌∷◌}
-use lib.ListN.{length}
-use borrow.Author.Tests.{leb-false, not-false}
+use Rattle.std.proofs.Common.{ℕ, Option, Some, None, ◌≡◌, refl, true, List, [], ◌∷◌, length, leb-false}
+use borrow.Author.Tests.{not-false}
 use Rattle.tables.specs.Count.{has, every}
 use Rattle.meaning.specs.Forms.{Letter}
 use Rattle.meaning.specs.Records.{Book, empty, Command, command_of, add_type, end_type, add_rule, reorder, delete_rule, add_row, delete_row, add_period, end_period, ask, type_quota, rule_quota, row_quota, period_quota}

@@ -1,9 +1,7 @@
 -- O leaves the rules and rows good: nothing has the new key, so the rule and its rows, which go there together, meet no
 -- other.
-use Prim.Native.Nat.{ℕ}
-use mathlib.Core.Path.{◌≡◌, refl, ap, sym, ◌∙◌}
-use mathlib.Core.Bool.{true, false, false≢true}
-use mathlib.Core.List.{List}
+use Rattle.std.proofs.Common.{ℕ, ◌≡◌, refl, ap, sym, ◌∙◌, true, false, List}
+use mathlib.Core.Bool.{false≢true}
 use Rattle.tables.specs.Count.{has, change}
 use Rattle.tables.proofs.Counts.{ands}
 use Rattle.tables.proofs.Lists.{has_true, some_of}

@@ -1,12 +1,7 @@
 -- S, W and L leave a list of kept instructions good: within the quota, each in its range, a reference once.
-use Prim.Native.Nat.{ℕ, ◌<◌}
-use mathlib.Core.Path.{◌≡◌, refl, ap, ap₂, sym, ◌∙◌}
-use mathlib.Core.Bool.{Bool, true, false, not, cond, ◌&&◌, and-false, or-true}
-use mathlib.Core.List.{List, ◌∷◌}
-use Rattle.std.specs.Prelude.{Some}
-use lib.Dec.{eqb}
-use lib.ListN.{length}
-use borrow.Author.Tests.{eqb-true, not-true}
+use Rattle.std.proofs.Common.{ℕ, ◌<◌, ◌≡◌, refl, ap, ap₂, sym, ◌∙◌, Bool, true, false, not, cond, ◌&&◌, List, ◌∷◌, Some, None, eqb, length, eqb-true}
+use mathlib.Core.Bool.{and-false, or-true}
+use borrow.Author.Tests.{not-true}
 use Rattle.tables.specs.Count.{has, every, sift, change}
 use Rattle.tables.proofs.Counts.{cases, ands}
 use Rattle.tables.proofs.Lists.{every_keep, has_never}
@@ -14,7 +9,7 @@ use Rattle.tables.proofs.Least.{least_no}
 use Rattle.meaning.specs.Forms.{holds, holds_all, optional, day as day_form, reference_form, nine_forms, wrongly_filled}
 use Rattle.meaning.specs.Records.{TypeRecord, Kept, Book, Question, instruction_quota, rejection, validation_hold, party_hold}
 use Rattle.meaning.specs.Keys.{is_kept}
-use Rattle.meaning.specs.Judging.{nobody, applies, named, verdict, judged}
+use Rattle.meaning.specs.Judging.{applies, named, verdict, judged}
 use Rattle.meaning.specs.Status.{is_on}
 use Rattle.meaning.specs.Scope.{scoped}
 use Rattle.meaning.specs.Pending.{are_types, asking, at_start, since, met, fresh, entered, exempted, start_verdict, start_exempted, started, released}
@@ -48,7 +43,7 @@ no_restriction b q e o =
 
 -- so no rule puts it on
 no_hold : (b : Book) (q : Question) → every type_fits b.types ≡ true → eqb q.object 2 ≡ true
-    → (judged b q).party ≡ nobody
+    → (judged b q).party ≡ None
 unfolding judged
 no_hold b q e o =
     ap (λ n. (verdict b q (named b q rejection) (named b q validation_hold) n).party) (no_restriction b q e o)
@@ -64,7 +59,7 @@ day_since day before true d f = rw d (or-true (eqb day 0))
 day_since day before false d f = f
 
 met_fits : (v : Verdict) (exempt : ℕ → Bool) (day : ℕ) (k : Kept) → kept_fits k ≡ true → holds day_form day ≡ true
-    → (eqb k.object 2 ≡ true → v.party ≡ nobody) → kept_fits (met v exempt day k) ≡ true
+    → (eqb k.object 2 ≡ true → v.party ≡ None) → kept_fits (met v exempt day k) ≡ true
 unfolding kept_fits met
 met_fits v exempt day k f d h =
     let reference : holds reference_form k.reference ≡ true = search ands in

@@ -1,12 +1,5 @@
 -- A and Z leave the periods good.
-use Prim.Native.Nat.{ℕ, ◌/◌, ◌≤◌, ◌<◌}
-use mathlib.Core.Path.{◌≡◌}
-use mathlib.Core.Bool.{true, false, ◌&&◌}
-use mathlib.Core.List.{◌∷◌}
-use native.Mathlib.Omega.{arith}
-use lib.Dec.{eqb, leb, ltb}
-use lib.ListN.{length}
-use borrow.Author.Tests.{leb-true, le-leb, ltb-false}
+use Rattle.std.proofs.Common.{ℕ, ◌/◌, ◌≤◌, ◌<◌, ◌≡◌, true, false, ◌&&◌, ◌∷◌, arith, eqb, leb, ltb, length, leb-true, le-leb, ltb-false}
 use Rattle.tables.specs.Count.{has, change}
 use Rattle.tables.proofs.Counts.{neither, ands}
 use Rattle.meaning.specs.Forms.{holds, day, code, kind_form, number_form}

@@ -1,10 +1,5 @@
 -- R, D, M and N leave the rules and rows good, every rule its type, and every row its rule.
-use Prim.Native.Nat.{ℕ, ◌<◌}
-use mathlib.Core.Path.{◌≡◌}
-use mathlib.Core.Bool.{true, false}
-use mathlib.Core.List.{◌∷◌}
-use lib.Dec.{eqb}
-use lib.ListN.{length}
+use Rattle.std.proofs.Common.{ℕ, ◌<◌, ◌≡◌, true, false, ◌∷◌, eqb, length}
 use borrow.Author.Tests.{not-false}
 use Rattle.tables.specs.Count.{has, without}
 use Rattle.tables.proofs.Lists.{every_map, every_keep}

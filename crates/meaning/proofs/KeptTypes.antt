@@ -1,11 +1,5 @@
 -- T and E leave the types good, and every rule its type.
-use Prim.Native.Nat.{ℕ, ◌<◌}
-use mathlib.Core.Path.{◌≡◌}
-use mathlib.Core.Bool.{true, false, not, ◌&&◌}
-use mathlib.Core.List.{◌∷◌}
-use lib.Dec.{eqb, ltb}
-use lib.ListN.{length}
-use borrow.Author.Tests.{le-leb, ltb-false}
+use Rattle.std.proofs.Common.{ℕ, ◌<◌, ◌≡◌, true, false, not, ◌&&◌, ◌∷◌, eqb, ltb, length, le-leb, ltb-false}
 use Rattle.tables.specs.Count.{has, change}
 use Rattle.tables.proofs.Counts.{neither, ands}
 use Rattle.tables.proofs.Lists.{every_map}

@@ -1,9 +1,5 @@
 -- How a record is known: what passes the test for a key has that key, and a rule has the key of its rows.
-use Prim.Native.Nat.{ℕ, ◌/◌}
-use mathlib.Core.Path.{◌≡◌, refl, sym, ◌∙◌}
-use mathlib.Core.Bool.{Bool, true, ◌&&◌}
-use lib.Dec.{eqb, leb}
-use borrow.Author.Tests.{eqb-true, eq-eqb}
+use Rattle.std.proofs.Common.{ℕ, ◌/◌, ◌≡◌, refl, sym, ◌∙◌, Bool, true, ◌&&◌, eqb, leb, eqb-true, eq-eqb}
 use Rattle.tables.proofs.Counts.{ands}
 use Rattle.meaning.specs.Records.{TypeRecord, Rule, Row, Period, Kept}
 use Rattle.meaning.specs.Keys.{is_type, is_rule, of_rule, is_row, is_period, is_kept, clash}

@@ -1,14 +1,8 @@
 -- A list of records that is good by itself: within its quota, each record in its range, no two alike. For any list: it
 -- stays so with a record more, without some, with some changed, and in another order.
-use Prim.Native.Nat.{ℕ, ◌≤◌, ◌<◌}
-use mathlib.Core.Path.{◌≡◌, refl, ap, sym, ◌∙◌}
-use mathlib.Core.Bool.{Bool, true, false, cond, not, ◌&&◌, or-true, false≢true}
-use mathlib.Core.List.{List, ◌∷◌}
-use Rattle.std.specs.Prelude.{Option, Some}
-use native.Mathlib.Omega.{arith}
-use lib.Dec.{leb}
-use lib.ListN.{length}
-use borrow.Author.Tests.{leb-true, le-leb, not-true}
+use Rattle.std.proofs.Common.{ℕ, ◌≤◌, ◌<◌, ◌≡◌, refl, ap, sym, ◌∙◌, Bool, true, false, cond, not, ◌&&◌, List, ◌∷◌, Option, Some, arith, leb, length, leb-true, le-leb}
+use mathlib.Core.Bool.{or-true, false≢true}
+use borrow.Author.Tests.{not-true}
 use Rattle.tables.specs.Count.{count, has, every, keep, alter, without, change, sift, Same}
 use Rattle.tables.proofs.Counts.{cases, both, bit_most, count_cons, count_keep, count_alter}
 use Rattle.tables.proofs.Lists.{has_cons, has_true, has_false, true_has, count_no, every_both, every_map, every_alter, every_keep, every_none, every_any, count_under, count_kept, length_keep, length_alter, left_by, every_left, every_left_lem, left_some, count_sift, every_sift, length_sift, same_length, same_has, same_every}

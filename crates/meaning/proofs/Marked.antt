@@ -1,8 +1,5 @@
 -- Document 01's twelve marked questions, by computation from lines as bytes: one list, one statement. Assumes nothing.
-use mathlib.Core.Path.{◌≡◌, refl}
-use Prim.Native.Nat.{ℕ}
-use mathlib.Core.List.{List, [], ◌∷◌, ◌++◌, map}
-use lib.ListN.{replicate}
+use Rattle.std.proofs.Common.{◌≡◌, refl, ℕ, List, [], ◌∷◌, ◌++◌, map, replicate}
 use Rattle.meaning.specs.Text.{bytes}
 use Rattle.meaning.specs.Lone.{answers}
 use Rattle.meaning.specs.Printing.{printed}

@@ -1,13 +1,7 @@
 -- Which depository a line names, and that a line which is read names the depository of its csd field.
-use Prim.Native.Nat.{ℕ, ◌+◌, ◌*◌, ◌-◌, ◌≤◌}
-use mathlib.Core.Path.{◌≡◌, refl, ap}
-use mathlib.Core.Bool.{Bool, true, false, ◌&&◌, false≢true}
-use mathlib.Core.List.{List, [], ◌∷◌, foldl}
-use Rattle.std.specs.Prelude.{Some}
-use native.Mathlib.Omega.{arith}
-use lib.Dec.{eqb, leb, ltb}
-use lib.ListN.{get_or}
-use borrow.Author.Tests.{eqb-true, leb-true, le-leb, ltb-true}
+use Rattle.std.proofs.Common.{ℕ, ◌+◌, ◌*◌, ◌-◌, ◌≤◌, ◌≡◌, refl, ap, Bool, true, false, ◌&&◌, List, [], ◌∷◌, Some, arith, eqb, leb, ltb, get_or, eqb-true, leb-true, le-leb, ltb-true}
+use mathlib.Core.Bool.{false≢true}
+use mathlib.Core.List.{foldl}
 use Rattle.tables.specs.Count.{every}
 use Rattle.tables.proofs.Counts.{both, ands}
 use Rattle.meaning.specs.Text.{decimal}

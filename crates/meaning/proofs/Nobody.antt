@@ -1,11 +1,6 @@
 -- A line that names no depository is refused 2 to 5, whatever the book.
-use Prim.Native.Nat.{ℕ, ◌≤◌}
-use mathlib.Core.Path.{◌≡◌, refl, sym, ◌∙◌}
-use mathlib.Core.Bool.{◌&&◌, false≢true}
-use mathlib.Core.List.{List, [], ◌∷◌}
-use Rattle.std.specs.Prelude.{Option, Some, None}
-use native.Mathlib.Omega.{arith}
-use lib.ListN.{length}
+use Rattle.std.proofs.Common.{ℕ, ◌≤◌, ◌≡◌, refl, sym, ◌∙◌, ◌&&◌, List, [], ◌∷◌, Option, Some, None, arith, length}
+use mathlib.Core.Bool.{false≢true}
 use Rattle.tables.specs.Count.{has}
 use Rattle.tables.proofs.Counts.{cases}
 use Rattle.meaning.specs.Fields.{well_made, fields}

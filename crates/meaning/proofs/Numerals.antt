@@ -1,9 +1,6 @@
 -- A number's decimal digits, one at a time: of a number below 10 the digit, of any other its tenth's digits and the
 -- last one.
-use Prim.Native.Nat.{ℕ, zero, suc, ◌+◌, ◌/◌, ◌%◌, ◌≤◌, ◌<◌}
-use mathlib.Core.Path.{◌≡◌, refl, ap, sym}
-use mathlib.Core.List.{[], ◌∷◌, ◌++◌}
-use native.Mathlib.Omega.{arith}
+use Rattle.std.proofs.Common.{ℕ, zero, suc, ◌+◌, ◌/◌, ◌%◌, ◌≤◌, ◌<◌, ◌≡◌, refl, ap, sym, [], ◌∷◌, ◌++◌, arith}
 use Rattle.meaning.specs.Text.{digits_to, numeral}
 
 no_digits : (k : ℕ) → digits_to k 0 ≡ []

@@ -1,10 +1,6 @@
 -- The order of a lone book's records carries no meaning: books with the same records give the same answers, line by
 -- line and for whole lists.
-use Prim.Native.Nat.{ℕ}
-use mathlib.Core.Path.{◌≡◌, refl, ap, ap₂, sym, subst}
-use mathlib.Core.Bool.{Bool, true, false}
-use mathlib.Core.List.{List, [], ◌∷◌}
-use Rattle.std.specs.Prelude.{Option, Some, None}
+use Rattle.std.proofs.Common.{ℕ, ◌≡◌, refl, ap, ap₂, sym, subst, Bool, true, false, List, [], ◌∷◌, Option, Some, None}
 use Rattle.tables.proofs.Lists.{same_length, same_cons, same_without, same_change}
 use Rattle.meaning.specs.Records.{◌!◌, Book, Question, Command, command_of, question_in, add_type, end_type, add_rule, reorder, delete_rule, add_row, delete_row, add_period, end_period, ask}
 use Rattle.meaning.specs.Reading.{Reading, refused, asks, reading}

@@ -1,9 +1,7 @@
 -- The order of a lone book's records carries no meaning for what is asked of it: books with the same records judge
 -- every question alike.
-use Prim.Native.Nat.{ℕ, zero, suc}
-use mathlib.Core.Path.{◌≡◌, refl, ap, ap₂, ◌∙◌, fun_ext}
-use mathlib.Core.Bool.{Bool, not, ◌&&◌}
-use lib.Dec.{eqb}
+use Rattle.std.proofs.Common.{ℕ, zero, suc, ◌≡◌, refl, ap, ap₂, ◌∙◌, Bool, not, ◌&&◌, eqb}
+use mathlib.Core.Path.{fun_ext}
 use Rattle.tables.specs.Count.{has, least}
 use Rattle.tables.proofs.Lists.{same_has, same_least}
 use Rattle.meaning.specs.Records.{TypeRecord, Rule, Row, Period, Book, Question, positive, negative, party, account, security, rejection, validation_hold, party_hold}

@@ -1,13 +1,10 @@
 -- What S keeps, and what the start of a day leaves of a kept instruction, does not depend on the order of the records.
-use Prim.Native.Nat.{ℕ}
-use mathlib.Core.Path.{◌≡◌, ap, ap₂, ◌∙◌, fun_ext}
-use mathlib.Core.Bool.{true, not, cond, ◌&&◌}
-use Rattle.std.specs.Prelude.{Some, None}
-use lib.Dec.{eqb}
+use Rattle.std.proofs.Common.{ℕ, ◌≡◌, ap, ap₂, ◌∙◌, true, not, cond, ◌&&◌, Some, None, eqb}
+use mathlib.Core.Path.{fun_ext}
 use Rattle.tables.specs.Count.{has}
 use Rattle.tables.proofs.Lists.{same_keep}
 use Rattle.meaning.specs.Records.{Kept, Book, Question, negative}
-use Rattle.meaning.specs.Judging.{covers, judged}
+use Rattle.meaning.specs.Judging.{covers, rejected, judged}
 use Rattle.meaning.specs.Scope.{Scope, scoped, is_new, only_new}
 use Rattle.meaning.specs.Pending.{asking, exempts, exempted, passed_over, at_start, met, fresh, entered, start_verdict, start_exempted, started}
 use Rattle.meaning.specs.SameBook.{SameBook}
@@ -60,4 +57,4 @@ module _ (b c : Book) (s : SameBook b c) (day : ℕ) (k : Kept) where
 
   pub started_same : started b day k ≡ started c day k
   unfolding started
-  started_same = ap₂ (λ v e. cond v.rejected None (Some (met v e day k))) verdict_alike exempted_alike
+  started_same = ap₂ (λ v e. cond (rejected v) None (Some (met v e day k))) verdict_alike exempted_alike

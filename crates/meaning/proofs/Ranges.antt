@@ -1,14 +1,8 @@
 -- What is read of a line is in document 01's ranges: the number of a field is in its form's range, and what a command
 -- would put into a book fits.
-use Prim.Native.Nat.{ℕ, zero, suc, ◌+◌, ◌*◌, ◌/◌, ◌%◌, ◌≤◌, ◌<◌}
-use mathlib.Core.Path.{◌≡◌, refl, ap, sym}
-use mathlib.Core.Bool.{Bool, true, false, ◌&&◌, ◌||◌, or-true, false≢true}
-use mathlib.Core.List.{List, [], ◌∷◌, foldl}
-use Rattle.std.specs.Prelude.{Option, Some, None}
-use native.Mathlib.Omega.{arith}
-use lib.Dec.{eqb, leb, ltb}
-use lib.ListN.{length, get_or}
-use borrow.Author.Tests.{eqb-true, eq-eqb, leb-true, le-leb, ltb-false}
+use Rattle.std.proofs.Common.{ℕ, zero, suc, ◌+◌, ◌*◌, ◌/◌, ◌%◌, ◌≤◌, ◌<◌, ◌≡◌, refl, ap, sym, Bool, true, false, ◌&&◌, ◌||◌, List, [], ◌∷◌, Option, Some, None, arith, eqb, leb, ltb, length, get_or, eqb-true, eq-eqb, leb-true, le-leb, ltb-false}
+use mathlib.Core.Bool.{or-true, false≢true}
+use mathlib.Core.List.{foldl}
 use Rattle.tables.specs.Count.{has, every}
 use Rattle.tables.proofs.Counts.{cases, both, neither, and_r}
 use Rattle.meaning.specs.Text.{same, word_place, word, decimal}

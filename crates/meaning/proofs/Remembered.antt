@@ -1,10 +1,6 @@
 -- Lists of type numbers: which numbers a list has that a test left, and that such a list is one of types.
-use Prim.Native.Nat.{ℕ}
-use mathlib.Core.Path.{◌≡◌, refl, ap, sym, ◌∙◌}
-use mathlib.Core.Bool.{Bool, true, false, ◌&&◌, ◌||◌, and-false}
-use mathlib.Core.List.{List, [], ◌∷◌}
-use lib.Dec.{eqb}
-use borrow.Author.Tests.{eqb-true, eq-eqb}
+use Rattle.std.proofs.Common.{ℕ, ◌≡◌, refl, ap, sym, ◌∙◌, Bool, true, false, ◌&&◌, ◌||◌, List, [], ◌∷◌, eqb, eqb-true, eq-eqb}
+use mathlib.Core.Bool.{and-false}
 use Rattle.tables.specs.Count.{keep}
 use Rattle.tables.proofs.Counts.{cases, both}
 use Rattle.tables.proofs.Lists.{has_cons}

@@ -1,10 +1,6 @@
 -- Two lists of numbers are the same exactly if they are equal.
-use Prim.Native.Nat.{ℕ}
-use mathlib.Core.Path.{◌≡◌, refl, ap₂}
-use mathlib.Core.Bool.{true, false≢true}
-use mathlib.Core.List.{List, [], ◌∷◌}
-use lib.Dec.{eqb}
-use borrow.Author.Tests.{eqb-true, eq-eqb}
+use Rattle.std.proofs.Common.{ℕ, ◌≡◌, refl, ap₂, true, List, [], ◌∷◌, eqb, eqb-true, eq-eqb}
+use mathlib.Core.Bool.{false≢true}
 use Rattle.tables.proofs.Counts.{both}
 use Rattle.meaning.specs.Text.{same}
 

@@ -1,12 +1,6 @@
 -- A row of a table, and what holds of each row: a test computed over the table, or a fact given row by row. These are
 -- laws over any list; then what the table of shapes gives of numbers that are read.
-use Prim.Native.Nat.{ℕ}
-use mathlib.Core.Path.{◌≡◌}
-use mathlib.Core.Bool.{Bool, true}
-use mathlib.Core.List.{List, [], ◌∷◌}
-use mathlib.Core.Logic.{◌⊎◌, inl, inr, ⊎_elim}
-use Rattle.std.specs.Prelude.{Some}
-use native.Mathlib.Omega.{arith}
+use Rattle.std.proofs.Common.{ℕ, ◌≡◌, Bool, true, List, [], ◌∷◌, ◌⊎◌, inl, inr, ⊎_elim, Some, arith}
 use Rattle.tables.specs.Count.{every}
 use Rattle.tables.proofs.Counts.{cases, both}
 use Rattle.meaning.specs.Forms.{Letter, Shape, shapes, first_shape, holds_all}

@@ -1,13 +1,7 @@
 -- When a rule's period leaves its type's, and which line is refused for it.
-use Prim.Native.Nat.{ℕ}
-use Rattle.std.specs.Prelude.{Some}
-use mathlib.Core.Path.{◌≡◌, refl, ap, sym, ◌∙◌}
-use mathlib.Core.Bool.{Bool, true, false, not, ◌&&◌, false≢true}
-use mathlib.Core.List.{List, [], ◌∷◌}
-use native.Mathlib.Omega.{arith}
-use lib.Dec.{leb, ltb}
-use lib.ListN.{length}
-use borrow.Author.Tests.{ltb-false, le-ltb, leb-true, le-leb, not-true}
+use Rattle.std.proofs.Common.{ℕ, Some, ◌≡◌, refl, ap, sym, ◌∙◌, Bool, true, false, not, ◌&&◌, List, [], ◌∷◌, arith, leb, ltb, length, ltb-false, le-ltb, leb-true, le-leb}
+use mathlib.Core.Bool.{false≢true}
+use borrow.Author.Tests.{not-true}
 use Rattle.tables.specs.Count.{has, every}
 use Rattle.tables.proofs.Counts.{cases, both, neither}
 use Rattle.meaning.specs.Forms.{letter_t, letter_e, letter_r, letter_o, letter_d, letter_m, letter_n, letter_a, letter_z, letter_q}

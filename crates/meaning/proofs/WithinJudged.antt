@@ -1,9 +1,7 @@
 -- On a day that a rule's period and its type's both hold, questions are judged as if the rule lay within its type; on
 -- any other day it does not count.
-use Prim.Native.Nat.{ℕ}
-use mathlib.Core.Path.{◌≡◌, refl, ◌∙◌}
-use mathlib.Core.Bool.{Bool, true, cond, not, ◌&&◌, ◌||◌, and-false}
-use lib.Dec.{eqb}
+use Rattle.std.proofs.Common.{ℕ, ◌≡◌, refl, ◌∙◌, Bool, true, cond, not, ◌&&◌, ◌||◌, eqb}
+use mathlib.Core.Bool.{and-false}
 use Rattle.tables.specs.Count.{has, every, change}
 use Rattle.tables.proofs.Counts.{cases}
 use Rattle.tables.proofs.Least.{has_agree, has_alter, least_alter, least_agree}

@@ -1,10 +1,8 @@
 -- Whatever lines are sent, every rule lies within its type, unless one of them is an E; and a sound book in which one
 -- does not.
-use Prim.Native.Nat.{ℕ}
-use Rattle.std.specs.Prelude.{Option, Some, None}
-use mathlib.Core.Path.{◌≡◌, refl, ap, ap₂, sym, ◌∙◌, fun_ext}
-use mathlib.Core.Bool.{Bool, true, false, not, ◌&&◌, false≢true}
-use mathlib.Core.List.{List, [], ◌∷◌}
+use Rattle.std.proofs.Common.{ℕ, Option, Some, None, ◌≡◌, refl, ap, ap₂, sym, ◌∙◌, Bool, true, false, not, ◌&&◌, List, [], ◌∷◌}
+use mathlib.Core.Path.{fun_ext}
+use mathlib.Core.Bool.{false≢true}
 use borrow.Author.Tests.{not-false}
 use Rattle.tables.specs.Count.{has, every, without}
 use Rattle.tables.proofs.Counts.{cases, neither}

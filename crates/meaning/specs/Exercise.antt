@@ -1,7 +1,8 @@
 -- THE EXERCISE: a rule is taken out and put back, or moved to another sequence. What the answers are then, over every
 -- sound lone book. Stated here, proved in proofs/Exercise*. Assumes nothing.
-use Rattle.std.specs.Prelude.{ℕ, zero, suc, ◌≡◌, Bool, true, false, cond, ◌&&◌, ◌||◌, List, [], ◌∷◌, ◌++◌, map, eqb, Option, Some, None}
+use Rattle.std.specs.Prelude.{ℕ, ◌≡◌, Bool, true, false, cond, ◌&&◌, ◌||◌, List, [], ◌∷◌, ◌++◌, map, eqb, Option, Some, None}
 use Rattle.std.proofs.Math.Dec.{ltb}
+use Rattle.std.specs.Option.{option_map}
 use Rattle.tables.specs.Count.{has, change, least, Same}
 use Rattle.meaning.specs.Records.{
   Rule,
@@ -22,7 +23,7 @@ use Rattle.meaning.specs.Records.{
 use Rattle.meaning.specs.Reading.{Reading, refused, asks, reading}
 use Rattle.meaning.specs.Keys.{is_rule, of_rule}
 use Rattle.meaning.specs.Edits.{rule_moved, row_moved}
-use Rattle.meaning.specs.Judging.{by, nobody, rule_applies, judged}
+use Rattle.meaning.specs.Judging.{by, rule_applies, rejected, judged}
 use Rattle.meaning.specs.Status.{answer_to}
 use Rattle.meaning.specs.declared.Wishes.{Wishes}
 use Rattle.meaning.specs.Lone.{elsewhere, step_sent, depository, answers_sent, after_sent}
@@ -113,17 +114,15 @@ EitherWay =
     → SameBook (after_sent b lines) (after_sent b others)
 
 -- the type, if any, with its sequence by f
-abbrev pub sequenced : (ℕ → ℕ) → ℕ → Deciding
-sequenced f zero = nobody
-sequenced f (suc type) = by (suc type) (f (suc type))
+abbrev pub sequenced : (ℕ → ℕ) → Option Deciding → Option Deciding
+sequenced f = option_map (λ d. by d.number (f d.number))
 
 -- the verdict with the sequences by f: whether it is rejected, and the types that are named, stay
 unfoldable pub resequenced : (ℕ → ℕ) → Verdict → Verdict
 resequenced f v = record {
-  rejected = v.rejected;
-  rejection = sequenced f v.rejection.number;
-  validation = sequenced f v.validation.number;
-  party = sequenced f v.party.number;
+  rejection = sequenced f v.rejection;
+  validation = sequenced f v.validation;
+  party = sequenced f v.party;
 }
 
 module _ (b : Book) (q : Question) (r : Rule) (new : ℕ) where
@@ -148,13 +147,17 @@ PutElsewhere =
     (b : Book) (r : Rule) (new : ℕ) (lines : List (Sent × List ℕ)) → Moves b r new lines → (q : Question)
     → judged (after_sent b lines) q ≡ resequenced (deciding_moved b q r new) (judged b q)
 
+-- the type that decides, if any
+abbrev pub type_named : Option Deciding → Option ℕ
+type_named = option_map (λ d. d.number)
+
 -- what an answer says but for the sequences: whether it is rejected, and the types that reject, hold for validation and
--- hold for the party, 0 where none does
+-- hold for the party, if any
 pub record SameTypes (v w : Verdict) : Type 0 where
-  pub rejected : v.rejected ≡ w.rejected
-  pub rejection : v.rejection.number ≡ w.rejection.number
-  pub validation : v.validation.number ≡ w.validation.number
-  pub party : v.party.number ≡ w.party.number
+  pub rejected : rejected v ≡ rejected w
+  pub rejection : type_named v.rejection ≡ type_named w.rejection
+  pub validation : type_named v.validation ≡ type_named w.validation
+  pub party : type_named v.party ≡ type_named w.party
 
 -- So it changes neither whether the instruction is rejected, nor which hold is on, nor which type is named.
 abbrev pub ElsewhereTypes : Type 0
@@ -162,10 +165,12 @@ ElsewhereTypes =
     (b : Book) (r : Rule) (new : ℕ) (lines : List (Sent × List ℕ)) → Moves b r new lines → (q : Question)
     → SameTypes (judged (after_sent b lines) q) (judged b q)
 
--- whether a verdict names that type with that sequence
-abbrev pub is_deciding : ℕ → ℕ → Deciding → Bool
-is_deciding type sequence d = eqb d.number type && eqb d.sequence sequence
+-- whether that type decides, with that sequence
+abbrev pub is_deciding : ℕ → ℕ → Option Deciding → Bool
+is_deciding type sequence None = false
+is_deciding type sequence (Some d) = eqb d.number type && eqb d.sequence sequence
 
+-- whether a verdict names it
 unfoldable pub names_rule : ℕ → ℕ → Verdict → Bool
 names_rule type sequence v =
     is_deciding type sequence v.rejection || (is_deciding type sequence v.validation || is_deciding type sequence v.party)

@@ -5,7 +5,7 @@ use Rattle.meaning.specs.Fields.{fields}
 use Rattle.meaning.specs.Forms.{letter_q}
 use Rattle.meaning.specs.Records.{Rule, Book, Question, wish_of, command_of, ask}
 use Rattle.meaning.specs.Reading.{reading}
-use Rattle.meaning.specs.Judging.{judged}
+use Rattle.meaning.specs.Judging.{rejected, judged}
 use Rattle.meaning.specs.Status.{is_on, wished, status}
 use Rattle.meaning.specs.Lone.{elsewhere, depository, step_sent, after_sent}
 use Rattle.meaning.specs.Printing.{printed, status_text}
@@ -24,11 +24,11 @@ HeldByRule =
 -- alone, undoes no wish (source document 004, example 4), and a validation hold does not count (example 5).
 abbrev pub WishesDecide : Type 0
 WishesDecide =
-    (v : Verdict) (w : Wishes) → v.rejected ≡ false → is_on v.party ≡ false → status v w ≡ wished w
+    (v : Verdict) (w : Wishes) → rejected v ≡ false → is_on v.party ≡ false → status v w ≡ wished w
 
 -- A rejection gives N, whatever was wished for.
 abbrev pub RejectedGivesN : Type 0
-RejectedGivesN = (v : Verdict) (w : Wishes) → v.rejected ≡ true → status v w ≡ false
+RejectedGivesN = (v : Verdict) (w : Wishes) → rejected v ≡ true → status v w ≡ false
 
 -- A line that asks a question, and names the depository of its batch where it comes in one, has 12 fields with its
 -- letter and is answered with its verdict alone, or 14 and is answered with the verdict and the status.

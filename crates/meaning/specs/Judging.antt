@@ -1,6 +1,6 @@
 -- How a question is judged (document 01). Assumes nothing.
 use Prim.Native.Nat.{ℕ, zero, suc}
-use Rattle.std.specs.Prelude.{Bool, true, false, ◌&&◌, leb}
+use Rattle.std.specs.Prelude.{Bool, true, ◌&&◌, leb, Option, Some, None, is_some}
 use Rattle.std.proofs.Math.Bool.{not}
 use mathlib.Core.List.{List, [], ◌∷◌}
 use Rattle.std.proofs.Math.Dec.{eqb}
@@ -38,8 +38,9 @@ meets_all (meets ∷ ms) (suc v ∷ vs) = meets (suc v) && meets_all ms vs
 abbrev pub by : ℕ → ℕ → Deciding
 by type sequence = record { number = type; sequence = sequence }
 
-abbrev pub nobody : Deciding
-nobody = by 0 0
+-- an instruction is rejected if a rule decides so
+abbrev pub rejected : Verdict → Bool
+rejected v = is_some v.rejection
 
 module _ (b : Book) (q : Question) where
   -- a period with exactly that code covers the day for that party, account or security
@@ -96,19 +97,19 @@ module _ (b : Book) (q : Question) where
   deciding type = least (λ r. r.sequence) (rule_applies type positive) b.rules
 
   -- the type, if any, with its deciding rule
-  unfoldable pub decided : ℕ → Deciding
+  unfoldable pub decided : ℕ → Option Deciding
   unfolding deciding
-  decided zero = nobody
-  decided (suc type) = by (suc type) (deciding (suc type))
+  decided zero = None
+  decided (suc type) = Some (by (suc type) (deciding (suc type)))
 
   -- by the types that reject, hold for validation and hold for the party, 0 for none: a rejected instruction shows no
   -- hold, an accepted one may carry both
   unfoldable pub verdict : ℕ → ℕ → ℕ → Verdict
   unfolding decided
   verdict zero validating holding =
-      record { rejected = false; rejection = nobody; validation = decided validating; party = decided holding }
+      record { rejection = None; validation = decided validating; party = decided holding }
   verdict (suc type) validating holding =
-      record { rejected = true; rejection = decided (suc type); validation = nobody; party = nobody }
+      record { rejection = decided (suc type); validation = None; party = None }
 
   -- rejection comes first, then CSD validation hold, then party hold
   unfoldable pub judged : Verdict

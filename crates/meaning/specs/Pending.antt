@@ -6,7 +6,7 @@ use Rattle.tables.specs.Count.{has, keep}
 use Rattle.meaning.specs.Text.{same}
 use Rattle.meaning.specs.Records.{TypeRecord, Kept, Book, Question, negative, validation_hold, party_hold}
 use Rattle.meaning.specs.Keys.{is_kept}
-use Rattle.meaning.specs.Judging.{covers, rule_applies, judged}
+use Rattle.meaning.specs.Judging.{covers, rule_applies, rejected, judged}
 use Rattle.meaning.specs.Scope.{Scope, scoped, is_new, only_new}
 use Rattle.meaning.specs.Status.{is_on}
 use Rattle.meaning.specs.declared.Deciding.{Deciding}
@@ -96,7 +96,7 @@ at_start b day k = record { types = λ t. not (passed_over k t); rules = is_new 
 -- ---- what becomes of it
 
 -- the day of a hold: this day where a rule puts it on, else as before
-abbrev pub since : ℕ → ℕ → Deciding → ℕ
+abbrev pub since : ℕ → ℕ → Option Deciding → ℕ
 since day before d = cond (is_on d) day before
 
 -- An instruction that is not rejected: each hold that the verdict puts on bears the day, and the types exempted are
@@ -156,7 +156,7 @@ start_exempted b day k = exempted (scoped (only_new b day) b) (asking day k)
 unfoldable pub started : Book → ℕ → Kept → Option Kept
 unfolding met start_verdict start_exempted
 started b day k =
-    cond (start_verdict b day k).rejected None (Some (met (start_verdict b day k) (start_exempted b day k) day k))
+    cond (rejected (start_verdict b day k)) None (Some (met (start_verdict b day k) (start_exempted b day k) day k))
 
 -- L: the hold of that processing is off
 unfoldable pub released : ℕ → Kept → Kept

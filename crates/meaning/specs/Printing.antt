@@ -1,7 +1,9 @@
 -- The printed form of an answer (document 01, 'The desk program'; document 02, request b). Assumes nothing.
-use Rattle.std.specs.Prelude.{ℕ, Bool, true, false, List, [], ◌∷◌, ◌++◌}
+use Rattle.std.specs.Prelude.{ℕ, Bool, true, false, List, [], ◌∷◌, ◌++◌, Option, Some, None}
 use Rattle.meaning.specs.Text.{bytes, numeral}
 use Rattle.meaning.specs.Refusals.{number_of}
+use Rattle.meaning.specs.Judging.{rejected}
+use Rattle.meaning.specs.declared.Deciding.{Deciding}
 use Rattle.meaning.specs.declared.Verdict.{Verdict}
 use Rattle.meaning.specs.declared.Answer.{Answer}
 use Rattle.meaning.specs.declared.Answer.TheVariants.{Taken, Refused, Judged, WithStatus}
@@ -15,18 +17,23 @@ verdict_text false = bytes "V,A"
 unfoldable pub text_of : Answer → List ℕ
 text_of Taken = bytes "K"
 text_of (Refused r) = bytes "F"
-text_of (Judged v) = verdict_text v.rejected
-text_of (WithStatus v s) = verdict_text v.rejected
+text_of (Judged v) = verdict_text (rejected v)
+text_of (WithStatus v s) = verdict_text (rejected v)
 
--- type and sequence deciding rejection, validation hold and party hold, 0, 0 where none
+-- type and sequence, 0, 0 where none decides
+abbrev pub deciding_numbers : Option Deciding → ℕ × ℕ
+deciding_numbers None = (0, 0)
+deciding_numbers (Some d) = (d.number, d.sequence)
+
+-- those deciding rejection, validation hold and party hold
 abbrev pub verdict_numbers : Verdict → List ℕ
 verdict_numbers v =
-    v.rejection.number
-    ∷ v.rejection.sequence
-    ∷ v.validation.number
-    ∷ v.validation.sequence
-    ∷ v.party.number
-    ∷ v.party.sequence
+    (deciding_numbers v.rejection).0
+    ∷ (deciding_numbers v.rejection).1
+    ∷ (deciding_numbers v.validation).0
+    ∷ (deciding_numbers v.validation).1
+    ∷ (deciding_numbers v.party).0
+    ∷ (deciding_numbers v.party).1
     ∷ []
 
 -- the paper's numbers of each case: the refusal's, or the verdict's

@@ -1,15 +1,16 @@
 -- The status of an instruction, Y where it is on party hold (document 02, request b; source document 004, 'Hold/Release
 -- Default'). Assumes nothing.
-use Rattle.std.specs.Prelude.{Bool, false, not, cond, ◌||◌, eqb, Option, Some, None, is_some, unwrap_or}
+use Rattle.std.specs.Prelude.{Bool, false, cond, ◌||◌, Option, Some, None, is_some, unwrap_or}
+use Rattle.meaning.specs.Judging.{rejected}
 use Rattle.meaning.specs.declared.Deciding.{Deciding}
 use Rattle.meaning.specs.declared.Verdict.{Verdict}
 use Rattle.meaning.specs.declared.Wishes.{Wishes}
 use Rattle.meaning.specs.declared.Answer.{Answer}
 use Rattle.meaning.specs.declared.Answer.TheVariants.{Taken, Refused, Judged, WithStatus}
 
--- whether a hold is on: its type's number is never 0
-abbrev pub is_on : Deciding → Bool
-is_on d = not (eqb d.number 0)
+-- a hold is on if a rule decides so
+abbrev pub is_on : Option Deciding → Bool
+is_on d = is_some d
 
 -- the indicator is Y, or it is empty and the account's default is Y
 unfoldable pub wished : Wishes → Bool
@@ -19,7 +20,7 @@ wished w = unwrap_or w.indicator (unwrap_or w.default false)
 -- does not count.
 unfoldable pub status : Verdict → Wishes → Bool
 unfolding wished
-status v w = cond v.rejected false (is_on v.party || wished w)
+status v w = cond (rejected v) false (is_on v.party || wished w)
 
 -- whether a line carries the two fields: the default is then filled
 abbrev pub carried : Wishes → Bool

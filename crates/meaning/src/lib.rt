@@ -45,20 +45,20 @@ impl From<Refusal> for u8 {
     }
 }
 
-// A restriction type and the sequence of its rule that decides; 0, 0 where none does.
+// A restriction type and the sequence of its rule that decides.
 #[derive(Clone, Copy, Debug, PartialEq, Eq)]
 pub struct Deciding {
     pub number: u8,
     pub sequence: u8,
 }
 
-// What a question is answered: whether it is rejected, and what decides rejection, validation hold and party hold.
+// What a question is answered: what decides rejection, validation hold and party hold, if anything does. It is rejected
+// if there is a rejection.
 #[derive(Clone, Copy, Debug, PartialEq, Eq)]
 pub struct Verdict {
-    pub rejected: bool,
-    pub rejection: Deciding,
-    pub validation: Deciding,
-    pub party: Deciding,
+    pub rejection: Option<Deciding>,
+    pub validation: Option<Deciding>,
+    pub party: Option<Deciding>,
 }
 
 // The two more fields that a question may carry (document 02, request b), called wishes here: the sender's hold
@@ -79,7 +79,8 @@ pub enum Answer {
     WithStatus(Verdict, bool),
 }
 
-// How a line was sent: alone, or in a batch of a depository.
+// How a line was sent: alone, or in a batch of a depository. No Option: its variants say how the line was sent, where
+// Some and None would say only whether a depository is named.
 #[derive(Clone, Copy, Debug, PartialEq, Eq)]
 pub enum Sent {
     Alone,

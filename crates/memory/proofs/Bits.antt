@@ -5,7 +5,7 @@ use mathlib.Core.Bool.{Bool, true, false, not, cond, ◌&&◌, and-true}
 use mathlib.Core.List.{List}
 use native.Mathlib.Omega.{arith}
 use lib.Dec.{eqb, ltb}
-use lib.ListN.{get_or, set, length-set, get_or-eq_default}
+use lib.ListN.{length, get_or, set, length-set, get_or-eq_default}
 use lib.Seq.{get_or-set_same, get_or-set_other}
 use borrow.Author.Tests.{ltb-true, ltb-false, lt-ltb, le-ltb}
 use Rattle.tables.specs.Keyed.{marked, Blank}
@@ -34,6 +34,10 @@ spare_by m a b d e f ef ee ed eb ea = rw (ef, ee, ed, eb, ea)
 pub types_none : (m marks : List ℕ) → m ≡ with_types_to 0 m (marked marks)
 unfolding with_types_to
 types_none m marks = refl
+
+pub long_cond : (on : Bool) (r : List ℕ) (i v : ℕ) → length (cond on (set r i v) r) ≡ length r
+long_cond true r i v = length-set r i v
+long_cond false r i v = refl
 
 -- With the bit of the number n, before which those of 1 to n - 1 were put in.
 pub types_more : (m marks r r' : List ℕ) (n k : ℕ) (on : Bool)

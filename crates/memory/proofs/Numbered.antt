@@ -80,10 +80,6 @@ which_only p z h =
     (keep_none p 0 1 (λ n l u. let e : n ≡ 0 = omega arith in rw e z))
     (keep_none p 100 4 h)
 
-pub which_within : (p : ℕ → Bool) (n : ℕ) → 1 ≤ n → n ≤ 99 → among (types_which p) n ≡ p n
-unfolding types_which type_numbers numbers_from
-which_within p n l h = among_within p 1 99 n l (omega arith)
-
 pub which_zero : (p : ℕ → Bool) → among (types_which p) 0 ≡ false
 unfolding types_which type_numbers numbers_from
 which_zero p = among_below p 1 99 0 (omega arith)

@@ -28,13 +28,18 @@ pub fn spare_clear(m: [u8; 13]) -> bool
         & !is_remembered(m, 103)
 }
 
+// The loops below are over numbers, by which bits and marks are asked: `from_fn` and `enumerate` would give a usize to
+// be turned into a byte.
+
 // Marks by type number: 1 where the bit is on, 0 elsewhere.
 pub fn marks_of(m: [u8; 13]) -> [u8; TYPE_NUMBERS as usize]
     ensures { marked result ≡ type_bits m }
 {
     let mut marks: [u8; TYPE_NUMBERS as usize] = blank();
     for n in 0..TYPE_NUMBERS {
-        store(&mut marks, usize::from(n), is_remembered(m, n), 1);
+        if is_remembered(m, n) {
+            store(&mut marks, usize::from(n), 1);
+        }
     }
     marks
 }
@@ -46,7 +51,9 @@ pub fn with_types(m: [u8; 13], marks: [u8; TYPE_NUMBERS as usize]) -> [u8; 13]
     let mut r = m;
     for n in 1..TYPE_NUMBERS {
         let k = usize::from(n);
-        store_flag::<Eight>(&mut r, k, is_marked(&marks, k));
+        if is_marked(&marks, k) {
+            store_flag::<Eight>(&mut r, k);
+        }
     }
     r
 }

@@ -1,2 +1,1 @@
-pub mod NewReturns
 pub mod NewRight

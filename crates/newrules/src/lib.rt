@@ -5,18 +5,18 @@
 
 ghost use Rattle.std.specs.Prelude.{◌≡◌, length};
 ghost use Rattle.tables.specs.Keyed.{marked};
-ghost use Rattle.newrules.specs.NewRules.{time_of, begun_key, first_key, has_begun, types_begun, rule_new, ruled_key, new_matches, NewMarked};
+ghost use Rattle.newrules.specs.NewRules.{time_of, when_begun, begun_key, first_key, has_begun, types_begun, rule_new, ruled_key, new_matches, NewMarked};
 
 use commands::Question;
-use marks::{blank, is_marked, key};
+use marks::{is_marked, key};
 use matching::rule_key;
-use passes::{Pass, run};
+use passes::{Pass, run, table};
 use places::{RestrictionType, Rule};
 
 // The keys of a type, one for each time when it may have begun, and 0.
 const TIMES: u8 = 3;
 
-// The size of the table of types.
+// The size of the table of types: three times here, as judge has three signs.
 const BEGUN_KEYS: usize = 300;
 
 // When a type began: on the question's day, or before it.
@@ -26,10 +26,22 @@ pub enum Begun {
     Before = 2,
 }
 
+// A function of its own for the reason at judge's `signed_key`: without a name each caller would state the size.
 fn begun_key(number: u8, when: Begun) -> usize
     ensures { result ≡ begun_key number (time_of when) }
 {
     key::<TIMES>(u32::from(number), when as u8)
+}
+
+// When a type began that does not begin after the day.
+fn begun_when(q: Question, t: RestrictionType) -> Begun
+    ensures { time_of result ≡ when_begun t.first q.day }
+{
+    if t.first == q.day {
+        Begun::OnTheDay
+    } else {
+        Begun::Before
+    }
 }
 
 // 1. The types that began on the day or before it.
@@ -47,39 +59,24 @@ impl Pass for BegunTypes {
 
     ghost key = { λ s t. first_key s.q t };
 
-    ghost entry = { λ s t m. 1 };
-
     // A type of the question's object that does not begin after the day.
     #[tactic(auto, unfolding(crate::specs::NewRules::has_begun))]
-    fn is_on(&self, t: RestrictionType) -> bool {
-        t.object == self.q.object && t.first <= self.q.day
-    }
-
-    fn key(&self, t: RestrictionType) -> usize {
-        if t.first == self.q.day {
-            begun_key(t.number, Begun::OnTheDay)
-        } else {
-            begun_key(t.number, Begun::Before)
-        }
-    }
-
-    fn entry(&self, _t: RestrictionType, _before: u8) -> u8 {
-        1
+    fn entry(&self, t: RestrictionType, _t: &[u8]) -> Option<(usize, u8)> {
+        let begun = t.object == self.q.object && t.first <= self.q.day;
+        begun.then_some((begun_key(t.number, begun_when(self.q, t)), 1))
     }
 }
 
 fn types_begun(b: &[u8], q: Question) -> [u8; BEGUN_KEYS]
     ensures { marked result ≡ types_begun b.now q }
 {
-    let mut t: [u8; BEGUN_KEYS] = blank();
-    run(&BegunTypes { q }, &mut t, b, q.csd);
-    t
+    table(&BegunTypes { q }, b, q.csd)
 }
 
 // 2. The rules that are new.
 
 // A rule that does not begin after the day is new if its type begins on the day, or if it does and its type began
-// before.
+// before. By | and &: each test is a call, and the proof takes them together.
 fn is_new(q: Question, begun: &[u8], r: Rule) -> bool
     ensures { result ≡ rule_new q (marked begun.now) r }
 {
@@ -103,25 +100,18 @@ impl<'a> Pass for NewRules<'a> {
 
     ghost key = { λ s r. ruled_key r };
 
-    ghost entry = { λ s r m. 1 };
-
     // A new rule of the question's object of which a row matches. By `&`: each test is a call, and the proof takes them
     // together.
-    fn is_on(&self, r: Rule) -> bool {
-        let matched = is_marked(self.rows, rule_key(r.number, r.sequence));
-        (r.object == self.q.object) & (is_new(self.q, self.begun, r) & matched)
-    }
-
-    fn key(&self, r: Rule) -> usize {
-        rule_key(r.number, r.sequence)
-    }
-
-    fn entry(&self, _r: Rule, _before: u8) -> u8 {
-        1
+    fn entry(&self, r: Rule, _t: &[u8]) -> Option<(usize, u8)> {
+        let k = rule_key(r.number, r.sequence);
+        let matched = is_marked(self.rows, k);
+        let new = (r.object == self.q.object) & (is_new(self.q, self.begun, r) & matched);
+        new.then_some((k, 1))
     }
 }
 
 // Marks in a lent table, whatever stood there, those of the rules marked in rows that are new on the question's day.
+// Not of judge's `Matched`, whose rows are what is left in this table.
 pub fn mark_new_rules(t: &mut [u8], b: &[u8], q: Question, rows: &[u8])
     ensures { NewMarked (length t.old) b.now q (types_begun b.now q) (marked rows.now) t.new }
 {

@@ -5,11 +5,12 @@ use mathlib.Core.Bool.{Bool, true, false, false≢true}
 use native.Mathlib.Nat.{mul-le-mul, add-mul}
 use native.Mathlib.Omega.{arith}
 use lib.Dec.{ltb}
-use borrow.Author.Tests.{eq-eqb, ne_eqb, ltb-true, ltb-false, le-leb, lt-leb}
+use borrow.Author.Tests.{ltb-true, ltb-false, le-leb, lt-leb}
 use Rattle.tables.proofs.Counts.{cases, cases_eq}
 use mathlib.Core.List.{List}
 use lib.Dec.{eqb}
-use Rattle.std.specs.Prelude.{Some, None}
+use Rattle.std.specs.Prelude.{Option, Some, None, MatchOption}
+use Rattle.std.specs.Option.{unwrap_or}
 use Rattle.std.proofs.lemmas.Bool.{lt-ltb, le-ltb}
 use Rattle.tables.specs.Bytes.{byte_at, Width, one, number, numbers}
 use Rattle.owners.specs.Next.{first_from, next, Passed, owned, place_if}
@@ -34,6 +35,13 @@ module _ (p : ℕ → Bool) where
       rw (f i (omega arith) (omega arith))
       (let e : i + suc n ≡ i + 1 + n = omega arith in
       e ∙ first_none (i + 1) n (λ j a b. f j (omega arith) (omega arith)))
+
+  -- what `find` answers of n places from place i on
+  pub found_from : (i n : ℕ) (r : Option ℕ) (k : ℕ)
+      → MatchOption r ((j : ℕ) → i ≤ j → j < i + n → p j ≡ false) (λ j. (i ≤ j) × (j < i + n) × (p j ≡ true) × ((l : ℕ) → i ≤ l → l < j → p l ≡ false))
+      → k ≡ unwrap_or r (i + n) → k ≡ first_from p i n
+  found_from i n None k m e = e ∙ first_none i n m
+  found_from i n (Some j) k m e = e ∙ first_at i n j m.0 m.1 m.3 m.2
 
   -- ---- what is passed before it
 
@@ -61,13 +69,7 @@ module _ (p : ℕ → Bool) where
       there : p i ≡ false → first_from p i (suc n) ≡ first_from p (i + 1) n
       there t = rw t
 
-  -- ---- one place more is passed
-
-  pub passed_none : (i : ℕ) → Passed p i i
-  passed_none i j a b = absurd (omega arith)
-
-  pub passed_more : (i k : ℕ) → Passed p i k → p k ≡ false → Passed p i (k + 1)
-  passed_more i k f e j a b = cases_eq j k (λ s. ap p s ∙ e) (λ s. f j a (omega arith))
+  -- ---- two runs of places are passed
 
   pub passed_on : (i k m : ℕ) → Passed p i k → Passed p k m → Passed p i m
   passed_on i k m f g j a b = cases (ltb j k) (λ t. f j a (ltb-true j k t)) (λ t. g j (ltb-false j k t) b)
@@ -133,15 +135,6 @@ pub eight_passed : (b : List ℕ) (start width a i at w r : ℕ)
     → (r ≤ 8) × Passed (owned b start width a) i (i + r)
 eight_passed b start width a i at w r e f s = eight_passed_at b start width a i at r (rw s at e) f
 
--- ---- what `next` leaves to show: x is read at the address of place k
-
-module _ (b : List ℕ) (start width a k at x : ℕ) (e : x ≡ byte_at b at) (f : at ≡ start + k * width) where
-  pub own_place : x ≡ a → owned b start width a k ≡ true
-  own_place s = ap (λ y. eqb (byte_at b y) a) (sym f) ∙ eq-eqb (byte_at b at) a (sym e ∙ s)
-
-  pub other_place : (x ≡ a → ⊥) → owned b start width a k ≡ false
-  other_place s = ap (λ y. eqb (byte_at b y) a) (sym f) ∙ ne_eqb (byte_at b at) a (λ z. s (e ∙ z))
-
 -- ---- of a table: a place's first byte is its depository
 
 module _ {P : Type 0} (csd : P → ℕ) (at : List ℕ → ℕ → P) (from : List ℕ → P) (widths : List Width) (start width : ℕ)
@@ -179,6 +172,16 @@ place_found places k n m l e f = place_at places k l ∙ ap (place_if places) (e
 
 pub place_lost : (places n m : ℕ) → places ≡ n → n ≡ m → None ≡ place_if places m
 place_lost places n m e f = place_out places m (omega arith)
+
+-- what `find` answers of the places from place k on, up to which none is passed that p holds at
+pub found_next : (p : ℕ → Bool) (places i k : ℕ) (r : Option ℕ) → i ≤ k → Passed p i k
+    → MatchOption r ((j : ℕ) → k ≤ j → j < places → p j ≡ false) (λ j. (k ≤ j) × (j < places) × (p j ≡ true) × ((l : ℕ) → k ≤ l → l < j → p l ≡ false))
+    → r ≡ place_if places (next p places i)
+found_next p places i k None l f m =
+    place_out places (next p places i) (omega (arith, next_none p places i places (omega arith) (passed_on p i k places f m)))
+found_next p places i k (Some j) l f m =
+    place_at places j m.1
+    ∙ ap (place_if places) (next_at p places i j (omega (arith, l, m.0)) m.1 (passed_on p i k j f m.3) m.2)
 
 -- a place that is found from place i on is none before
 pub place_from : (p : ℕ → Bool) (places i k : ℕ) → Some k ≡ place_if places (next p places i) → (i ≤ k) × (k < places)

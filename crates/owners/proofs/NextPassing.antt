@@ -11,11 +11,7 @@ use Rattle.tables.specs.Keyed.{entry, after_place, Keyed}
 use Rattle.tables.proofs.Counts.{cases_eq}
 use Rattle.tables.proofs.Keying.{keyed_more}
 use Rattle.owners.specs.Next.{next, Passed}
-use Rattle.owners.proofs.Finding.{next_low, next_high, next_passed}
-
--- The next place is none before.
-pub next_within : (p : ℕ → Bool) (places i k : ℕ) → k ≡ next p places i → i ≤ places → (i ≤ k) × (k ≤ places)
-next_within p places i k e l = (omega (arith, e, next_low p places i l), omega (arith, e, next_high p places i))
+use Rattle.owners.proofs.Finding.{next_low, next_passed}
 
 -- A fold over the places below n that does not change at places where p does not hold.
 fold_over : {A : Type 0} (f : ℕ → A) (p : ℕ → Bool) → ((j : ℕ) → p j ≡ false → f (suc j) ≡ f j) → (i k : ℕ) → i ≤ k

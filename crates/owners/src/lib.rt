@@ -12,18 +12,19 @@ use places::{Place, address};
 use std::marker::PhantomData;
 
 // Which of eight places, the first at an address, is the first of depository a; 8 where none is, which is how many are
-// passed then, and so no Option.
+// passed then, and so no Option. Widening is by `as`: with `usize::from` the bounds in the closure were not proved. The
+// address and the width are numbers, as the law of eight places has them.
 fn first_of_eight(b: &[u8], at: usize, width: u8, a: u8) -> u16
     requires { at + 7 * width < length b.now }
     ensures { result ≡ first_from (λ j. eqb (byte_at b.now (at + j * width)) a) 0 8 }
 {
-    for j in 0..8 {
-        if b[at + j as usize * width as usize] == a {
-            return j;
-        }
-    }
-    8
+    (0..8)
+        .find(|&j: &u16| b[at + j as usize * width as usize] == a)
+        .unwrap_or(8)
 }
+
+// Book, place and depository are parameters here and below, and no methods of the iterator: contracts speak of the
+// place that is reached, and not of where the iterator stands.
 
 // How many places from place i on are passed at once: up to 8, none where the book ends before the eighth.
 fn eight_passed<P: Place>(b: &[u8], i: u16, a: u8) -> u16
@@ -58,12 +59,11 @@ pub fn next<P: Place>(b: &[u8], i: u16, a: u8) -> Option<u16>
     ensures { result ≡ place_if P.PLACES (next (λ k. eqb (P.csd (P.at b.now k)) a) P.PLACES i) }
 {
     let from = pass::<P>(b, i, a);
-    for k in from..P::PLACES {
-        if byte_at(b, address::<P>(k) as usize) == a {
-            return Some(k);
-        }
-    }
-    None
+    (from..P::PLACES).find(
+        |&k: &u16| -> bool
+            ensures { result ≡ owned b.entry.now P.START P.WIDTH a k }
+        { byte_at(b, address::<P>(k) as usize) == a },
+    )
 }
 
 // The places of depository a, in rising order; those before place i were given.

@@ -1,11 +1,11 @@
 // One pass over a depository's places of a table of records, which leaves a table of numbers addressed by key.
 #![tactic(auto)]
 
-ghost use Rattle.std.specs.Prelude.{◌≡◌, ℕ, Bool, length};
+ghost use Rattle.std.specs.Prelude.{◌≡◌, ℕ, Bool, get_or, length};
+ghost use Rattle.std.specs.Bool.{then_some};
 ghost use Rattle.tables.specs.Keyed.{Keyed};
 
-use basics::byte_at;
-use marks::store;
+use marks::{blank, store};
 use owners::places_of;
 use places::{Place, record_at};
 
@@ -13,32 +13,37 @@ use places::{Place, record_at};
 pub trait Pass {
     type Record: Place;
 
-    // Whether a record has an entry, at which key, and the entry by what stood there.
+    // Whether a record has an entry, at which key, and the entry by what stood there: a mark, unless a pass says else.
     ghost on: { Self → Self.Record → Bool };
 
     ghost key: { Self → Self.Record → ℕ };
 
-    ghost entry: { Self → Self.Record → ℕ → ℕ };
+    ghost entry: { Self → Self.Record → ℕ → ℕ } = { λ s r m. 1 };
 
-    fn is_on(&self, r: Self::Record) -> bool
-        ensures { result ≡ on self.now r };
-
-    fn key(&self, r: Self::Record) -> usize
-        ensures { result ≡ key self.now r };
-
-    fn entry(&self, r: Self::Record, before: u8) -> u8
-        ensures { result ≡ entry self.now r before };
+    // The key and the entry of a record, by the table as it stands, if the record has one.
+    fn entry(&self, r: Self::Record, t: &[u8]) -> Option<(usize, u8)>
+        ensures { result ≡ then_some (on self.now r) (key self.now r, entry self.now r (get_or t.now (key self.now r) 0)) };
 }
 
-// Leaves in a lent table, whatever stood there, the entries of depository a's records.
+// Leaves in a lent table, whatever stood there, the entries of depository a's records. Each pass is called in a
+// function that states its table's size, by the definition of its stage. Large tables are lent: to answer those of a
+// question by value took 1.08 times the instructions of a submit in an almost empty book.
 pub fn run<S: Pass>(asked: &S, t: &mut [u8], b: &[u8], a: u8)
     ensures { Keyed (length t.old) S.Record.csd a (S.Record.at b.now) (S.key asked.now) (S.on asked.now) (S.entry asked.now) t.new S.Record.PLACES }
 {
     t.fill(0);
     for i in places_of::<S::Record>(b, a) {
-        let r = record_at::<S::Record>(b, i);
-        let k = asked.key(r);
-        let entry = asked.entry(r, byte_at(t, k));
-        store(t, k, asked.is_on(r), entry);
+        if let Some((k, v)) = asked.entry(record_at::<S::Record>(b, i), t) {
+            store(t, k, v);
+        }
     }
+}
+
+// The table of the entries of depository a's records, if it is small.
+pub fn table<S: Pass, const N: usize>(asked: &S, b: &[u8], a: u8) -> [u8; N]
+    ensures { Keyed N S.Record.csd a (S.Record.at b.now) (S.key asked.now) (S.on asked.now) (S.entry asked.now) result S.Record.PLACES }
+{
+    let mut t: [u8; N] = blank();
+    run(asked, &mut t, b, a);
+    t
 }

@@ -1,15 +1,10 @@
 -- What the code makes of one instruction is what the written meaning does.
-use Prim.Native.Nat.{ℕ}
-use mathlib.Core.Path.{◌≡◌, refl, ap, ap₂, ◌∙◌, fun_ext}
-use mathlib.Core.Bool.{Bool, true, false, cond}
-use mathlib.Core.List.{List}
-use Rattle.std.specs.Prelude.{Option, Some, None}
-use borrow.Author.Tests.{ne_eqb}
-use lib.ListN.{replicate}
+use Rattle.std.proofs.Common.{ℕ, ◌≡◌, refl, ap, ap₂, sym, ◌∙◌, Bool, true, false, cond, List, Option, Some, None, ne_eqb, replicate}
+use mathlib.Core.Path.{fun_ext}
 use Rattle.tables.specs.Keyed.{marked}
 use Rattle.meaning.specs.Records as M
 use Rattle.meaning.specs.Records.{validation_hold, party_hold}
-use Rattle.meaning.specs.Judging.{judged}
+use Rattle.meaning.specs.Judging.{rejected, judged}
 use Rattle.meaning.specs.Scope.{scoped}
 use Rattle.meaning.specs.Sound.{sound_lone}
 use Rattle.meaning.specs.Pending.{held_since, is_held, since, asking, met, fresh, entered, start_verdict, start_exempted, started, released}
@@ -58,11 +53,11 @@ pub entered_right : (b : List ℕ) (reference : ℕ) (q : Question) → sound_lo
     → Entered (lone_book q.csd b) reference (question_of q) (entered_by b reference q)
 unfolding entered_by met_by entered
 entered_right b reference q z =
-    left_by (judged_by b q).rejected (kept_by (fresh_at reference q) q.day (judged_by b q) (exempted_within b q whole))
-    ∙ ap (λ x. cond (judged_by b q).rejected None (Some x))
+    left_by (rejected (judged_by b q)) (kept_by (fresh_at reference q) q.day (judged_by b q) (exempted_within b q whole))
+    ∙ ap (λ x. cond (rejected (judged_by b q)) None (Some x))
     (met_said (fresh_at reference q) q.day (judged_by b q) (exempted_within b q whole) (fresh_remembers reference q)
     ∙ ap (met (judged_by b q) (exempted_within b q whole) q.day) (fresh_said reference q))
-    ∙ ap₂ (λ x e. cond x.rejected None (Some (met x e q.day (fresh reference (question_of q))))) (judged_right b q z)
+    ∙ ap₂ (λ x e. cond (rejected x) None (Some (met x e q.day (fresh reference (question_of q))))) (judged_right b q z)
     (whole_exempted b q z)
 
 -- ---- W
@@ -90,11 +85,11 @@ module _ (b : List ℕ) (k : Kept) (day : ℕ) (z : sound_lone (lone_book k.csd 
   pub started_right : left_of (started_by b k day) ≡ started m day i
   unfolding started_by met_by started
   started_right =
-      left_by (judged_within b (asking_at k day) (scope_at k) (type_bits k.remembered)).rejected
+      left_by (rejected (judged_within b (asking_at k day) (scope_at k) (type_bits k.remembered)))
       (kept_by k day (judged_within b (asking_at k day) (scope_at k) (type_bits k.remembered)) (exempted_within b (asking_at k day) (scope_at k)))
-      ∙ ap (λ x. cond (judged_within b (asking_at k day) (scope_at k) (type_bits k.remembered)).rejected None (Some x))
+      ∙ ap (λ x. cond (rejected (judged_within b (asking_at k day) (scope_at k) (type_bits k.remembered))) None (Some x))
       (met_said k day (judged_within b (asking_at k day) (scope_at k) (type_bits k.remembered)) (exempted_within b (asking_at k day) (scope_at k)) r)
-      ∙ ap₂ (λ v e. cond v.rejected None (Some (met v e day i))) verdict_right exempted_right
+      ∙ ap₂ (λ v e. cond (rejected v) None (Some (met v e day i))) verdict_right exempted_right
 
 -- ---- L
 
@@ -104,17 +99,17 @@ released_right hold k = refl
 
 -- ---- what the functions return
 
-pub after_rejected : (k : Kept) (day : ℕ) (v : Verdict) (exempt : ℕ → Bool) → v.rejected ≡ true
+pub after_rejected : (k : Kept) (day : ℕ) (v : Verdict) (exempt : ℕ → Bool) (t : Bool) → t ≡ rejected v → t ≡ true
     → None ≡ met_by k day v exempt
 unfolding met_by
-after_rejected k day v exempt h = rw h
+after_rejected k day v exempt t e h = rw (sym e ∙ h)
 
-pub after_by : (k : Kept) (day validating holding : ℕ) (v : Verdict) (marks remembered : List ℕ)
+pub after_by : (k : Kept) (day validating holding : ℕ) (v : Verdict) (marks remembered : List ℕ) (t : Bool)
     → remembered ≡ with_types k.remembered (marked marks) → holding ≡ since day k.holding v.party
-    → validating ≡ since day k.validating v.validation → v.rejected ≡ false
+    → validating ≡ since day k.validating v.validation → t ≡ rejected v → t ≡ false
     → Some (kept_with k validating holding remembered) ≡ met_by k day v (marked marks)
 unfolding met_by kept_by
-after_by k day validating holding v marks remembered e f g h = rw (h, e, f, g)
+after_by k day validating holding v marks remembered t e f g i h = rw (sym i ∙ h, e, f, g)
 
 -- L, by the processing of the hold
 pub released_by : (k r : Kept) (hold : ℕ) → r ≡ released_at hold k

@@ -3,7 +3,7 @@
 use Rattle.std.specs.Prelude.{ℕ, ◌≡◌, Bool, true, not, cond, List, eqb, length, replicate, Option, Some, None}
 use Rattle.meaning.specs.Records as M
 use Rattle.meaning.specs.Records.{validation_hold, party_hold}
-use Rattle.meaning.specs.Judging.{judged}
+use Rattle.meaning.specs.Judging.{rejected, judged}
 use Rattle.meaning.specs.Pending.{since, entered}
 use Rattle.meaning.specs.declared.Verdict.{Verdict}
 use Rattle.memory.specs.Remembered.{spare_clear, type_bits, with_types}
@@ -76,7 +76,7 @@ kept_by k day v exempt =
 -- if anything is left
 unfoldable pub met_by : Kept → ℕ → Verdict → (ℕ → Bool) → Option Kept
 unfolding kept_by
-met_by k day v exempt = cond v.rejected None (Some (kept_by k day v exempt))
+met_by k day v exempt = cond (rejected v) None (Some (kept_by k day v exempt))
 
 -- S is judged as a question is
 unfoldable pub entered_by : List ℕ → ℕ → Question → Option Kept
@@ -113,4 +113,4 @@ pub record Remembering (k : Kept) : Type 0 where
 
 -- what S keeps: nothing of a question that is rejected
 abbrev pub Entered : M.Book → ℕ → M.Question → Option Kept → Type 0
-Entered m reference q r = left_of r ≡ cond (judged m q).rejected None (Some (entered m reference q))
+Entered m reference q r = left_of r ≡ cond (rejected (judged m q)) None (Some (entered m reference q))

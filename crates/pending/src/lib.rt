@@ -12,12 +12,13 @@ ghost use Rattle.commands.specs.Asked.{question_of};
 ghost use Rattle.pending.specs.OnBytes.{asking_at, fresh_at, met_by, entered_by, started_by, released_at, left_of, Remembering, Entered};
 
 use commands::Question;
-use judge::{Judgement, Scope, judge_within, none_passed};
+use judge::{Judgement, Scope, judge_within};
 use meaning::Deciding;
 use memory::{marks_of, with_types};
 use places::{Kept, RestrictionType};
 
-// The question that a kept instruction is on a day. Field by field, as `fresh`: the two types are not one.
+// The question that a kept instruction is on a day. Field by field, as `fresh`: the fields are of two types, so `..`
+// copies none, and both are of other crates, so this one cannot implement `From` between them.
 fn asking(k: Kept, day: u32) -> Question
     ensures { result ≡ asking_at k day }
 {
@@ -36,7 +37,8 @@ fn asking(k: Kept, day: u32) -> Question
     }
 }
 
-// An instruction before it meets a rule: no hold is on and no type is remembered.
+// An instruction before it meets a rule: no hold is on and no type is remembered. Field by field, for the reasons at
+// `asking`.
 fn fresh(reference: u32, q: Question) -> Kept
     ensures { result ≡ fresh_at reference q }
 {
@@ -59,10 +61,10 @@ fn fresh(reference: u32, q: Question) -> Kept
 }
 
 // The day of a hold: this day where a rule puts it on, else as before.
-fn since(day: u32, before: u32, d: Deciding) -> u32
+fn since(day: u32, before: u32, d: Option<Deciding>) -> u32
     ensures { result ≡ since day before d }
 {
-    if d.number == 0 { before } else { day }
+    if d.is_none() { before } else { day }
 }
 
 // What is left of an instruction by what was found on it, unless it is rejected: each hold that is put on bears the
@@ -71,7 +73,7 @@ fn after(k: Kept, day: u32, found: Judgement) -> Option<Kept>
     ensures { result ≡ met_by k day found.verdict (marked found.exempted) }
 {
     let v = found.verdict;
-    if v.rejected {
+    if v.rejection.is_some() {
         return None;
     }
     let validating = since(day, k.validating, v.validation);
@@ -90,8 +92,7 @@ pub fn enter(book: &[u8], reference: u32, q: Question) -> Option<Kept>
     ensures by_bytes { result ≡ entered_by book.now reference q }
     ensures meant { sound_lone (lone_book q.csd book.now) ≡ true → Entered (lone_book q.csd book.now) reference (question_of q) result }
 {
-    let none = none_passed();
-    let found = judge_within(book, q, Scope::whole(), &none);
+    let found = judge_within(book, q, Scope::whole(), &[]);
     after(fresh(reference, q), q.day, found)
 }
 

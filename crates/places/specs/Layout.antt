@@ -30,7 +30,8 @@ abbrev pub type_start : ℕ → ℕ
 type_start i = type_base + i * type_width
 
 abbrev pub type_widths : List Width
-type_widths = one ∷ one ∷ one ∷ one ∷ four ∷ four ∷ []
+type_widths =
+    one ∷ one ∷ one ∷ one ∷ four ∷ four ∷ []
 
 abbrev pub type_from : List ℕ → RestrictionType
 type_from v = record {
@@ -44,8 +45,7 @@ type_from v = record {
 
 abbrev pub type_numbers : RestrictionType → List ℕ
 type_numbers r =
-    r.csd ∷ r.number ∷ r.object ∷ r.processing ∷ r.first
-    ∷ r.last ∷ []
+    r.csd ∷ r.number ∷ r.object ∷ r.processing ∷ r.first ∷ r.last ∷ []
 
 unfoldable pub type_at : List ℕ → ℕ → RestrictionType
 type_at b i = type_from (numbers type_widths b (type_start i) 0)
@@ -54,7 +54,14 @@ unfoldable pub put_type : List ℕ → ℕ → RestrictionType → List ℕ
 put_type b i r = puts b (type_start i) 0 (bytes_of type_widths (type_numbers r))
 
 abbrev pub zero_type : RestrictionType
-zero_type = record { csd = 0; number = 0; object = 0; processing = 0; first = 0; last = 0 }
+zero_type = record {
+  csd = 0;
+  number = 0;
+  object = 0;
+  processing = 0;
+  first = 0;
+  last = 0;
+}
 
 -- ---- 512 places of 15 bytes, from 1536
 
@@ -74,7 +81,8 @@ abbrev pub rule_start : ℕ → ℕ
 rule_start i = rule_base + i * rule_width
 
 abbrev pub rule_widths : List Width
-rule_widths = one ∷ one ∷ one ∷ one ∷ one ∷ two ∷ four ∷ four ∷ []
+rule_widths =
+    one ∷ one ∷ one ∷ one ∷ one ∷ two ∷ four ∷ four ∷ []
 
 abbrev pub rule_from : List ℕ → Rule
 rule_from v = record {
@@ -90,8 +98,7 @@ rule_from v = record {
 
 abbrev pub rule_numbers : Rule → List ℕ
 rule_numbers r =
-    r.csd ∷ r.number ∷ r.object ∷ r.sequence ∷ r.sign
-    ∷ r.criteria ∷ r.first ∷ r.last ∷ []
+    r.csd ∷ r.number ∷ r.object ∷ r.sequence ∷ r.sign ∷ r.criteria ∷ r.first ∷ r.last ∷ []
 
 unfoldable pub rule_at : List ℕ → ℕ → Rule
 rule_at b i = rule_from (numbers rule_widths b (rule_start i) 0)
@@ -100,7 +107,16 @@ unfoldable pub put_rule : List ℕ → ℕ → Rule → List ℕ
 put_rule b i r = puts b (rule_start i) 0 (bytes_of rule_widths (rule_numbers r))
 
 abbrev pub zero_rule : Rule
-zero_rule = record { csd = 0; number = 0; object = 0; sequence = 0; sign = 0; criteria = 0; first = 0; last = 0 }
+zero_rule = record {
+  csd = 0;
+  number = 0;
+  object = 0;
+  sequence = 0;
+  sign = 0;
+  criteria = 0;
+  first = 0;
+  last = 0;
+}
 
 -- ---- 1024 places of 26 bytes, from 9216
 
@@ -120,7 +136,8 @@ abbrev pub row_start : ℕ → ℕ
 row_start i = row_base + i * row_width
 
 abbrev pub row_widths : List Width
-row_widths = one ∷ one ∷ one ∷ one ∷ one ∷ one ∷ one ∷ four ∷ three ∷ three ∷ two ∷ two ∷ two ∷ three ∷ []
+row_widths =
+    one ∷ one ∷ one ∷ one ∷ one ∷ one ∷ one ∷ four ∷ three ∷ three ∷ two ∷ two ∷ two ∷ three ∷ []
 
 abbrev pub row_from : List ℕ → Row
 row_from v = record {
@@ -133,9 +150,9 @@ row_from v = record {
 
 abbrev pub row_numbers : Row → List ℕ
 row_numbers r =
-    r.csd ∷ r.number ∷ r.object ∷ r.sequence ∷ get_or r.values 0 0
-    ∷ get_or r.values 1 0 ∷ get_or r.values 2 0 ∷ get_or r.values 3 0 ∷ get_or r.values 4 0 ∷ get_or r.values 5 0
-    ∷ get_or r.values 6 0 ∷ get_or r.values 7 0 ∷ get_or r.values 8 0 ∷ get_or r.values 9 0 ∷ []
+    r.csd ∷ r.number ∷ r.object ∷ r.sequence ∷ get_or r.values 0 0 ∷ get_or r.values 1 0 ∷ get_or r.values 2 0
+    ∷ get_or r.values 3 0 ∷ get_or r.values 4 0 ∷ get_or r.values 5 0 ∷ get_or r.values 6 0 ∷ get_or r.values 7 0
+    ∷ get_or r.values 8 0 ∷ get_or r.values 9 0 ∷ []
 
 unfoldable pub row_at : List ℕ → ℕ → Row
 row_at b i = row_from (numbers row_widths b (row_start i) 0)
@@ -144,7 +161,13 @@ unfoldable pub put_row : List ℕ → ℕ → Row → List ℕ
 put_row b i r = puts b (row_start i) 0 (bytes_of row_widths (row_numbers r))
 
 abbrev pub zero_row : Row
-zero_row = record { csd = 0; number = 0; object = 0; sequence = 0; values = replicate 10 0 }
+zero_row = record {
+  csd = 0;
+  number = 0;
+  object = 0;
+  sequence = 0;
+  values = replicate 10 0;
+}
 
 -- ---- 1024 places of 15 bytes, from 35840
 
@@ -164,7 +187,8 @@ abbrev pub period_start : ℕ → ℕ
 period_start i = period_base + i * period_width
 
 abbrev pub period_widths : List Width
-period_widths = one ∷ one ∷ three ∷ two ∷ four ∷ four ∷ []
+period_widths =
+    one ∷ one ∷ three ∷ two ∷ four ∷ four ∷ []
 
 abbrev pub period_from : List ℕ → Period
 period_from v = record {
@@ -178,8 +202,7 @@ period_from v = record {
 
 abbrev pub period_numbers : Period → List ℕ
 period_numbers r =
-    r.csd ∷ r.kind ∷ r.number ∷ r.code ∷ r.first
-    ∷ r.last ∷ []
+    r.csd ∷ r.kind ∷ r.number ∷ r.code ∷ r.first ∷ r.last ∷ []
 
 unfoldable pub period_at : List ℕ → ℕ → Period
 period_at b i = period_from (numbers period_widths b (period_start i) 0)
@@ -188,7 +211,14 @@ unfoldable pub put_period : List ℕ → ℕ → Period → List ℕ
 put_period b i r = puts b (period_start i) 0 (bytes_of period_widths (period_numbers r))
 
 abbrev pub zero_period : Period
-zero_period = record { csd = 0; kind = 0; number = 0; code = 0; first = 0; last = 0 }
+zero_period = record {
+  csd = 0;
+  kind = 0;
+  number = 0;
+  code = 0;
+  first = 0;
+  last = 0;
+}
 
 -- ---- 256 places of 44 bytes, from 51200
 
@@ -208,7 +238,9 @@ abbrev pub instruction_start : ℕ → ℕ
 instruction_start i = instruction_base + i * instruction_width
 
 abbrev pub instruction_widths : List Width
-instruction_widths = one ∷ two ∷ one ∷ one ∷ one ∷ one ∷ four ∷ three ∷ three ∷ three ∷ three ∷ four ∷ four ∷ one ∷ one ∷ one ∷ one ∷ one ∷ one ∷ one ∷ one ∷ one ∷ one ∷ one ∷ one ∷ one ∷ []
+instruction_widths =
+    one ∷ two ∷ one ∷ one ∷ one ∷ one ∷ four ∷ three ∷ three ∷ three ∷ three ∷ four ∷ four ∷ one ∷ one ∷ one ∷ one ∷ one
+    ∷ one ∷ one ∷ one ∷ one ∷ one ∷ one ∷ one ∷ one ∷ []
 
 abbrev pub instruction_from : List ℕ → Kept
 instruction_from v = record {
@@ -230,12 +262,11 @@ instruction_from v = record {
 
 abbrev pub instruction_numbers : Kept → List ℕ
 instruction_numbers r =
-    r.csd ∷ r.reference ∷ r.object ∷ r.role ∷ r.movement
-    ∷ r.payment ∷ r.transaction ∷ r.currency ∷ r.party ∷ r.account
+    r.csd ∷ r.reference ∷ r.object ∷ r.role ∷ r.movement ∷ r.payment ∷ r.transaction ∷ r.currency ∷ r.party ∷ r.account
     ∷ r.security ∷ r.validating ∷ r.holding ∷ get_or r.remembered 0 0 ∷ get_or r.remembered 1 0
-    ∷ get_or r.remembered 2 0 ∷ get_or r.remembered 3 0 ∷ get_or r.remembered 4 0 ∷ get_or r.remembered 5 0 ∷ get_or r.remembered 6 0
-    ∷ get_or r.remembered 7 0 ∷ get_or r.remembered 8 0 ∷ get_or r.remembered 9 0 ∷ get_or r.remembered 10 0 ∷ get_or r.remembered 11 0
-    ∷ get_or r.remembered 12 0 ∷ []
+    ∷ get_or r.remembered 2 0 ∷ get_or r.remembered 3 0 ∷ get_or r.remembered 4 0 ∷ get_or r.remembered 5 0
+    ∷ get_or r.remembered 6 0 ∷ get_or r.remembered 7 0 ∷ get_or r.remembered 8 0 ∷ get_or r.remembered 9 0
+    ∷ get_or r.remembered 10 0 ∷ get_or r.remembered 11 0 ∷ get_or r.remembered 12 0 ∷ []
 
 unfoldable pub instruction_at : List ℕ → ℕ → Kept
 instruction_at b i = instruction_from (numbers instruction_widths b (instruction_start i) 0)
@@ -244,4 +275,19 @@ unfoldable pub put_instruction : List ℕ → ℕ → Kept → List ℕ
 put_instruction b i r = puts b (instruction_start i) 0 (bytes_of instruction_widths (instruction_numbers r))
 
 abbrev pub zero_instruction : Kept
-zero_instruction = record { csd = 0; reference = 0; object = 0; role = 0; movement = 0; payment = 0; transaction = 0; currency = 0; party = 0; account = 0; security = 0; validating = 0; holding = 0; remembered = replicate 13 0 }
+zero_instruction = record {
+  csd = 0;
+  reference = 0;
+  object = 0;
+  role = 0;
+  movement = 0;
+  payment = 0;
+  transaction = 0;
+  currency = 0;
+  party = 0;
+  account = 0;
+  security = 0;
+  validating = 0;
+  holding = 0;
+  remembered = replicate 13 0;
+}

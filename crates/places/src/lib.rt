@@ -7,6 +7,8 @@ ghost use Rattle.tables.specs.Bytes.{byte_at, Width, one, two, three, four, numb
 ghost use Rattle.places.specs.Layout.{type_base, type_width, type_places, type_quota, type_widths, type_from, type_at, rule_base, rule_width, rule_places, rule_quota, rule_widths, rule_from, rule_at, row_base, row_width, row_places, row_quota, row_widths, row_from, row_at, period_base, period_width, period_places, period_quota, period_widths, period_from, period_at, instruction_base, instruction_width, instruction_places, instruction_quota, instruction_widths, instruction_from, instruction_at, zero_row, zero_instruction};
 ghost use Rattle.places.specs.Reads.{type_reads, rule_reads, row_reads, period_reads, instruction_reads};
 
+use basics::byte_at;
+
 // The book's exact size in bytes (docs/LAYOUT.md).
 pub const SIZE: usize = 51200;
 
@@ -53,10 +55,12 @@ pub trait Place: Copy {
 pub fn address<P: Place>(i: u16) -> u32
     ensures { result ≡ P.START + i * P.WIDTH }
 {
-    P::START as u32 + i as u32 * P::WIDTH as u32
+    u32::from(P::START) + u32::from(i) * u32::from(P::WIDTH)
 }
 
-// The record at place i.
+// The record at place i. It is put into its callers' loops, as what it calls: as a call it reads every field, where a
+// loop asks one or two.
+#[inline(always)]
 pub fn record_at<P: Place>(b: &[u8], i: u16) -> P
     ensures { result ≡ P.at b.now i }
 {
@@ -64,87 +68,103 @@ pub fn record_at<P: Place>(b: &[u8], i: u16) -> P
 }
 
 // Whose place i is, 0 where it is free.
+#[inline(always)]
 pub fn csd_at<P: Place>(b: &[u8], i: u16) -> u8
     ensures { result ≡ P.csd (P.at b.now i) }
 {
-    byte_at(b, address::<P>(i), 0)
+    let place = Bytes {
+        book: b,
+        start: address::<P>(i),
+    };
+    place.byte(0)
 }
 
-// The byte at an offset from a place, 0 past the end.
-fn byte_at(b: &[u8], at: u32, j: u32) -> u8
-    ensures { result ≡ byte_at b.now (at + j) }
-{
-    basics::byte_at(b, at as usize + j as usize)
+// The bytes of a place: those of a book from an address on, 0 past its end. An index is had by `as`, since no `From`
+// makes a usize of a u32.
+#[derive(Clone, Copy)]
+struct Bytes<'a> {
+    book: &'a [u8],
+    start: u32,
 }
 
-// Numbers of one to four bytes, lowest first. A function for each width, as `number` has a clause for each: one over a
-// const parameter would be a loop, no plainer and slower where places are read.
+// Numbers of one to four bytes at an offset, lowest byte first. A method for each width, as `number` has a clause for
+// each, and as `from_le_bytes` has a type for each. Where all its bytes lie within the book, a number of several is
+// read by one test; else byte by byte.
+impl<'a> Bytes<'a> {
+    #[inline(always)]
+    fn byte(self, j: u32) -> u8
+        ensures { result ≡ byte_at self.entry.book.now (self.entry.start + j) }
+    {
+        byte_at(self.book, self.start as usize + j as usize)
+    }
 
-fn one_at(b: &[u8], at: u32, j: u16) -> u32
-    ensures { result ≡ number one b.now at j }
-{
-    u32::from(byte_at(b, at, j as u32))
+    #[inline(always)]
+    fn one(self, j: u16) -> u32
+        ensures { result ≡ number one self.entry.book.now self.entry.start j }
+    {
+        u32::from(self.byte(u32::from(j)))
+    }
+
+    #[inline(always)]
+    fn two(self, j: u16) -> u32
+        ensures { result ≡ number two self.entry.book.now self.entry.start j }
+    {
+        let b = self.book;
+        let i = self.start as usize + usize::from(j);
+        if i + 1 < b.len() {
+            return two(b[i], b[i + 1]);
+        }
+        let k = u32::from(j);
+        two(self.byte(k), self.byte(k + 1))
+    }
+
+    #[inline(always)]
+    fn three(self, j: u16) -> u32
+        ensures { result ≡ number three self.entry.book.now self.entry.start j }
+    {
+        let b = self.book;
+        let i = self.start as usize + usize::from(j);
+        if i + 2 < b.len() {
+            return three(b[i], b[i + 1], b[i + 2]);
+        }
+        let k = u32::from(j);
+        three(self.byte(k), self.byte(k + 1), self.byte(k + 2))
+    }
+
+    #[inline(always)]
+    fn four(self, j: u16) -> u32
+        ensures { result ≡ number four self.entry.book.now self.entry.start j }
+    {
+        let b = self.book;
+        let i = self.start as usize + usize::from(j);
+        if i + 3 < b.len() {
+            return four(b[i], b[i + 1], b[i + 2], b[i + 3]);
+        }
+        let k = u32::from(j);
+        let x0 = self.byte(k);
+        let x1 = self.byte(k + 1);
+        let x2 = self.byte(k + 2);
+        let x3 = self.byte(k + 3);
+        four(x0, x1, x2, x3)
+    }
 }
 
 fn two(x0: u8, x1: u8) -> u32
     ensures { result ≡ x0 + 256 * x1 }
 {
-    u32::from(x0) + 256 * u32::from(x1)
+    u32::from(u16::from_le_bytes([x0, x1]))
 }
 
 fn three(x0: u8, x1: u8, x2: u8) -> u32
     ensures { result ≡ x0 + 256 * x1 + 65536 * x2 }
 {
-    u32::from(x0) + 256 * u32::from(x1) + 65536 * u32::from(x2)
+    four(x0, x1, x2, 0)
 }
 
 fn four(x0: u8, x1: u8, x2: u8, x3: u8) -> u32
     ensures { result ≡ x0 + 256 * x1 + 65536 * x2 + 16777216 * x3 }
 {
-    u32::from(x0) + 256 * u32::from(x1) + 65536 * u32::from(x2) + 16777216 * u32::from(x3)
-}
-
-// Where all its bytes lie within the book, a number is read by one test; else byte by byte.
-
-fn two_at(b: &[u8], at: u32, j: u16) -> u32
-    ensures { result ≡ number two b.now at j }
-{
-    let i = at as usize + j as usize;
-    if i + 1 < b.len() {
-        return two(b[i], b[i + 1]);
-    }
-    let k = j as u32;
-    two(byte_at(b, at, k), byte_at(b, at, k + 1))
-}
-
-fn three_at(b: &[u8], at: u32, j: u16) -> u32
-    ensures { result ≡ number three b.now at j }
-{
-    let i = at as usize + j as usize;
-    if i + 2 < b.len() {
-        return three(b[i], b[i + 1], b[i + 2]);
-    }
-    let k = j as u32;
-    three(
-        byte_at(b, at, k),
-        byte_at(b, at, k + 1),
-        byte_at(b, at, k + 2),
-    )
-}
-
-fn four_at(b: &[u8], at: u32, j: u16) -> u32
-    ensures { result ≡ number four b.now at j }
-{
-    let i = at as usize + j as usize;
-    if i + 3 < b.len() {
-        return four(b[i], b[i + 1], b[i + 2], b[i + 3]);
-    }
-    let k = j as u32;
-    let x0 = byte_at(b, at, k);
-    let x1 = byte_at(b, at, k + 1);
-    let x2 = byte_at(b, at, k + 2);
-    let x3 = byte_at(b, at, k + 3);
-    four(x0, x1, x2, x3)
+    u32::from_le_bytes([x0, x1, x2, x3])
 }
 
 // A restriction type of a depository: what becomes of an object that its rules match.
@@ -159,7 +179,7 @@ pub struct RestrictionType {
 }
 
 impl RestrictionType {
-    // Objects, then processings.
+    // Objects, then processings. Numbers and no enum: a place of any lent bytes is read, so any number may stand there.
     pub const INSTRUCTION: u8 = 1;
 
     pub const RESTRICTION: u8 = 2;
@@ -170,6 +190,7 @@ impl RestrictionType {
 
     pub const PARTY_HOLD: u8 = 3;
 
+    // Each record has a `new` of its own, since their fields differ.
     pub fn new(
         csd: u8,
         number: u8,
@@ -220,14 +241,16 @@ impl Place for RestrictionType {
 
     const QUOTA: u16 = 16;
 
+    #[inline(always)]
     fn read(b: &[u8], start: u32) -> RestrictionType {
+        let place = Bytes { book: b, start };
         RestrictionType {
-            csd: byte_at(b, start, 0),
-            number: byte_at(b, start, 1),
-            object: byte_at(b, start, 2),
-            processing: byte_at(b, start, 3),
-            first: four_at(b, start, 4),
-            last: four_at(b, start, 8),
+            csd: place.byte(0),
+            number: place.byte(1),
+            object: place.byte(2),
+            processing: place.byte(3),
+            first: place.four(4),
+            last: place.four(8),
         }
     }
 }
@@ -246,11 +269,12 @@ pub struct Rule {
 }
 
 impl Rule {
-    // Signs.
+    // Signs. Numbers and no enum: a place of any lent bytes is read, so any number may stand there.
     pub const POSITIVE: u8 = 1;
 
     pub const NEGATIVE: u8 = 2;
 
+    // Each record has a `new` of its own, since their fields differ.
     pub fn new(
         csd: u8,
         number: u8,
@@ -305,21 +329,24 @@ impl Place for Rule {
 
     const QUOTA: u16 = 64;
 
+    #[inline(always)]
     fn read(b: &[u8], start: u32) -> Rule {
+        let place = Bytes { book: b, start };
         Rule {
-            csd: byte_at(b, start, 0),
-            number: byte_at(b, start, 1),
-            object: byte_at(b, start, 2),
-            sequence: byte_at(b, start, 3),
-            sign: byte_at(b, start, 4),
-            criteria: two_at(b, start, 5),
-            first: four_at(b, start, 7),
-            last: four_at(b, start, 11),
+            csd: place.byte(0),
+            number: place.byte(1),
+            object: place.byte(2),
+            sequence: place.byte(3),
+            sign: place.byte(4),
+            criteria: place.two(5),
+            first: place.four(7),
+            last: place.four(11),
         }
     }
 }
 
-// A row of a rule: its ten values, 0 where empty.
+// A row of a rule: its ten values, 0 where empty. They are no Options: any lent bytes are read, and a value is compared
+// as it lies.
 #[derive(Clone, Copy, PartialEq, Eq, Debug)]
 pub struct Row {
     pub csd: u8,
@@ -330,6 +357,7 @@ pub struct Row {
 }
 
 impl Row {
+    // Each record has a `new` of its own, since their fields differ.
     pub fn new(csd: u8, number: u8, object: u8, sequence: u8, values: [u32; 10]) -> Row
         ensures { result ≡ record { csd = csd; number = number; object = object; sequence = sequence; values = values } }
     {
@@ -387,23 +415,25 @@ impl Place for Row {
 
     const QUOTA: u16 = 128;
 
+    #[inline(always)]
     fn read(b: &[u8], start: u32) -> Row {
+        let place = Bytes { book: b, start };
         Row {
-            csd: byte_at(b, start, 0),
-            number: byte_at(b, start, 1),
-            object: byte_at(b, start, 2),
-            sequence: byte_at(b, start, 3),
+            csd: place.byte(0),
+            number: place.byte(1),
+            object: place.byte(2),
+            sequence: place.byte(3),
             values: [
-                one_at(b, start, 4),
-                one_at(b, start, 5),
-                one_at(b, start, 6),
-                four_at(b, start, 7),
-                three_at(b, start, 11),
-                three_at(b, start, 14),
-                two_at(b, start, 17),
-                two_at(b, start, 19),
-                two_at(b, start, 21),
-                three_at(b, start, 23),
+                place.one(4),
+                place.one(5),
+                place.one(6),
+                place.four(7),
+                place.three(11),
+                place.three(14),
+                place.two(17),
+                place.two(19),
+                place.two(21),
+                place.three(23),
             ],
         }
     }
@@ -421,13 +451,14 @@ pub struct Period {
 }
 
 impl Period {
-    // Kinds.
+    // Kinds. Numbers and no enum: a place of any lent bytes is read, so any number may stand there.
     pub const PARTY: u8 = 1;
 
     pub const ACCOUNT: u8 = 2;
 
     pub const SECURITY: u8 = 3;
 
+    // Each record has a `new` of its own, since their fields differ.
     pub fn new(csd: u8, kind: u8, number: u32, code: u32, first: u32, last: u32) -> Period
         ensures { result ≡ record { csd = csd; kind = kind; number = number; code = code; first = first; last = last } }
     {
@@ -471,19 +502,22 @@ impl Place for Period {
 
     const QUOTA: u16 = 128;
 
+    #[inline(always)]
     fn read(b: &[u8], start: u32) -> Period {
+        let place = Bytes { book: b, start };
         Period {
-            csd: byte_at(b, start, 0),
-            kind: byte_at(b, start, 1),
-            number: three_at(b, start, 2),
-            code: two_at(b, start, 5),
-            first: four_at(b, start, 7),
-            last: four_at(b, start, 11),
+            csd: place.byte(0),
+            kind: place.byte(1),
+            number: place.three(2),
+            code: place.two(5),
+            first: place.four(7),
+            last: place.four(11),
         }
     }
 }
 
-// A pending instruction that is kept: the days since which its holds are on, 0 where off, and the types remembered.
+// A pending instruction that is kept: the days since which its holds are on, 0 where off, and the types remembered. The
+// days are no Options: they are stored as they lie, and the written meaning has 0 for a hold that is off.
 #[derive(Clone, Copy, PartialEq, Eq, Debug)]
 pub struct Kept {
     pub csd: u8,
@@ -503,6 +537,8 @@ pub struct Kept {
 }
 
 impl Kept {
+    // Each record has a `new` of its own, since their fields differ. No other function makes a record by this one: it
+    // stays, since document 01 names constructors without self, one for each record.
     pub fn new(
         csd: u8,
         reference: u32,
@@ -565,23 +601,23 @@ impl Default for Kept {
 }
 
 // The 13 bytes of remembered.
-fn remembered_at(b: &[u8], at: u32) -> [u8; 13]
-    ensures { result ≡ number one b.now at 31 ∷ number one b.now at 32 ∷ number one b.now at 33 ∷ number one b.now at 34 ∷ number one b.now at 35 ∷ number one b.now at 36 ∷ number one b.now at 37 ∷ number one b.now at 38 ∷ number one b.now at 39 ∷ number one b.now at 40 ∷ number one b.now at 41 ∷ number one b.now at 42 ∷ number one b.now at 43 ∷ [] }
+fn remembered_at(place: Bytes<'_>) -> [u8; 13]
+    ensures { result ≡ number one place.entry.book.now place.entry.start 31 ∷ number one place.entry.book.now place.entry.start 32 ∷ number one place.entry.book.now place.entry.start 33 ∷ number one place.entry.book.now place.entry.start 34 ∷ number one place.entry.book.now place.entry.start 35 ∷ number one place.entry.book.now place.entry.start 36 ∷ number one place.entry.book.now place.entry.start 37 ∷ number one place.entry.book.now place.entry.start 38 ∷ number one place.entry.book.now place.entry.start 39 ∷ number one place.entry.book.now place.entry.start 40 ∷ number one place.entry.book.now place.entry.start 41 ∷ number one place.entry.book.now place.entry.start 42 ∷ number one place.entry.book.now place.entry.start 43 ∷ [] }
 {
     [
-        byte_at(b, at, 31),
-        byte_at(b, at, 32),
-        byte_at(b, at, 33),
-        byte_at(b, at, 34),
-        byte_at(b, at, 35),
-        byte_at(b, at, 36),
-        byte_at(b, at, 37),
-        byte_at(b, at, 38),
-        byte_at(b, at, 39),
-        byte_at(b, at, 40),
-        byte_at(b, at, 41),
-        byte_at(b, at, 42),
-        byte_at(b, at, 43),
+        place.byte(31),
+        place.byte(32),
+        place.byte(33),
+        place.byte(34),
+        place.byte(35),
+        place.byte(36),
+        place.byte(37),
+        place.byte(38),
+        place.byte(39),
+        place.byte(40),
+        place.byte(41),
+        place.byte(42),
+        place.byte(43),
     ]
 }
 
@@ -614,22 +650,24 @@ impl Place for Kept {
 
     const QUOTA: u16 = 32;
 
+    #[inline(always)]
     fn read(b: &[u8], start: u32) -> Kept {
+        let place = Bytes { book: b, start };
         Kept {
-            csd: byte_at(b, start, 0),
-            reference: two_at(b, start, 1),
-            object: byte_at(b, start, 3),
-            role: one_at(b, start, 4),
-            movement: one_at(b, start, 5),
-            payment: one_at(b, start, 6),
-            transaction: four_at(b, start, 7),
-            currency: three_at(b, start, 11),
-            party: three_at(b, start, 14),
-            account: three_at(b, start, 17),
-            security: three_at(b, start, 20),
-            validating: four_at(b, start, 23),
-            holding: four_at(b, start, 27),
-            remembered: remembered_at(b, start),
+            csd: place.byte(0),
+            reference: place.two(1),
+            object: place.byte(3),
+            role: place.one(4),
+            movement: place.one(5),
+            payment: place.one(6),
+            transaction: place.four(7),
+            currency: place.three(11),
+            party: place.three(14),
+            account: place.three(17),
+            security: place.three(20),
+            validating: place.four(23),
+            holding: place.four(27),
+            remembered: remembered_at(place),
         }
     }
 }

@@ -1,8 +1,6 @@
 -- Demand 3, proved.
-use Prim.Native.Nat.{ℕ, ◌≤◌}
-use mathlib.Core.Path.{◌≡◌, refl, ap, ap₂, sym, subst, ◌∙◌}
-use mathlib.Core.Bool.{true, false, not, false≢true}
-use mathlib.Core.List.{List, [], ◌∷◌, ◌++◌, map}
+use Rattle.std.proofs.Common.{ℕ, ◌≤◌, ◌≡◌, refl, ap, ap₂, sym, subst, ◌∙◌, true, false, not, List, [], ◌∷◌, ◌++◌, map}
+use mathlib.Core.Bool.{false≢true}
 use Rattle.tables.specs.Count.{keep}
 use Rattle.tables.proofs.Counts.{cases, and_r}
 use Rattle.meaning.specs.Batch.{batch_lines}

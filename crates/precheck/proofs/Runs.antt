@@ -1,12 +1,6 @@
 -- There is a run of every list of calls over every book, and its answers are fixed.
-use Prim.Native.Nat.{ℕ, ◌≤◌}
-use mathlib.Core.Path.{◌≡◌, refl, ap, ap₂, sym, ◌∙◌}
-use mathlib.Core.Bool.{Bool, true, false, cond}
-use mathlib.Core.List.{List, [], ◌∷◌}
-use native.Mathlib.Omega.{arith}
-use lib.Dec.{leb}
-use lib.ListN.{length, replicate, get_or, length-replicate}
-use borrow.Author.Tests.{leb-true}
+use Rattle.std.proofs.Common.{ℕ, ◌≤◌, ◌≡◌, refl, ap, ap₂, sym, ◌∙◌, Bool, true, false, cond, List, [], ◌∷◌, arith, leb, length, replicate, get_or, leb-true}
+use lib.ListN.{length-replicate}
 use Rattle.tables.proofs.Counts.{cases, cases_eq, and_r}
 use Rattle.meaning.specs.Batch.{batch_lines, batch_result, space_after}
 use Rattle.meaning.specs.Fields.{within, fields}

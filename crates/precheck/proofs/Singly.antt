@@ -1,9 +1,6 @@
 -- A batch and the same lines sent singly, those refused 12 left out; and a batch that is refused 11.
-use Prim.Native.Nat.{ℕ}
-use mathlib.Core.Path.{◌≡◌, refl, ap, sym, subst, ◌∙◌}
-use mathlib.Core.Bool.{true, false, cond, not, ◌||◌, false≢true}
-use mathlib.Core.List.{List, [], ◌∷◌}
-use mathlib.Core.Logic.{⊎_elim}
+use Rattle.std.proofs.Common.{ℕ, ◌≡◌, refl, ap, sym, subst, ◌∙◌, true, false, cond, not, ◌||◌, List, [], ◌∷◌, ⊎_elim}
+use mathlib.Core.Bool.{false≢true}
 use Rattle.tables.specs.Count.{keep}
 use Rattle.tables.proofs.Counts.{cases}
 use Rattle.meaning.specs.Batch.{batch_result, batch_lines, space_after}

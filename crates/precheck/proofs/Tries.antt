@@ -1,10 +1,6 @@
 -- What a reviewer will try, and the slips of this trade: none keeps the promise.
-use Prim.Native.Nat.{ℕ, ◌≤◌}
-use mathlib.Core.Path.{◌≡◌, refl, ap, sym, subst, ◌∙◌}
-use mathlib.Core.Bool.{true, false, false≢true}
-use mathlib.Core.List.{List, [], ◌∷◌}
-use native.Mathlib.Omega.{arith}
-use lib.ListN.{length}
+use Rattle.std.proofs.Common.{ℕ, ◌≤◌, ◌≡◌, refl, ap, sym, subst, ◌∙◌, true, false, List, [], ◌∷◌, arith, length}
+use mathlib.Core.Bool.{false≢true}
 use Rattle.tables.specs.Bytes.{zeros}
 use Rattle.tables.specs.Count.{keep}
 use Rattle.tables.proofs.Zeros.{length_zeros}

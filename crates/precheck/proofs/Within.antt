@@ -1,6 +1,5 @@
 -- From an emptied book on every rule lies within its type where no E is sent; and a sound book in which one does not.
-use mathlib.Core.Path.{◌∙◌}
-use native.Mathlib.Omega.{arith}
+use Rattle.std.proofs.Common.{◌∙◌, arith}
 use Rattle.tables.specs.Count.{keep}
 use Rattle.meaning.specs.Records as M
 use Rattle.meaning.specs.Lone.{after_sent, after, counts, names}

@@ -3,19 +3,12 @@
 #![tactic(auto)]
 
 use input::read_full;
+use marks::blank;
 use meaning::Answer;
 use places::SIZE;
 use std::io;
 
-// Space for a book; large arrays are made in functions of their own.
-fn book_space() -> [u8; SIZE] {
-    [0u8; SIZE]
-}
-
-fn text_space() -> [u8; 600000] {
-    [0u8; 600000]
-}
-
+// `line_main` and `calls` have two lines like these; a crate for them would be no plainer.
 fn show(rt: &impl Print, answer: Answer) -> io::Result<()> {
     rt.write_all(text::print(answer).as_slice())?;
     rt.write_all(b"\n")
@@ -34,10 +27,10 @@ fn answer_lines(rt: &impl Print, book: &mut [u8], text: &[u8]) -> io::Result<()>
 }
 
 fn main(rt: HostRuntime) -> io::Result<()> {
-    let mut book = book_space();
+    let mut book: [u8; SIZE] = blank();
     // A book of the exact size is never refused.
     let _ = precheck::empty(&mut book);
-    let mut text = text_space();
+    let mut text: [u8; 600000] = blank();
     let n = read_full(&mut rt.reader(), &mut text)?;
     answer_lines(&rt, &mut book, &text[..n])
 }

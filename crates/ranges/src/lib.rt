@@ -2,53 +2,26 @@
 #![tactic(auto)]
 
 ghost use Rattle.std.specs.Prelude.{◌≡◌};
-ghost use Rattle.meaning.specs.Fields.{is_capital};
 ghost use Rattle.meaning.specs.Forms.{holds, optional, code, day, is_word};
 ghost use Rattle.meaning.specs.Sound.{days_fit, key_fits};
-ghost use Rattle.ranges.specs.Values.{month_day};
 
+use days::is_day;
 use places::RestrictionType;
 
-// The days that each month has beyond 28, two bits for each: January's are those of 2 ^ 2. A table would be made anew
-// at every use.
-const MORE_DAYS: u32 = 62648012;
-
-// Whether the month and the day of a number are a real date in its year. A year is leap when 4 divides it.
-fn is_date(n: u32) -> bool
-    ensures { result ≡ month_day n }
-{
-    let month = n / 100 % 100;
-    let day = n % 100;
-    if month == 0 {
-        return false;
-    }
-    if month > 12 {
-        return false;
-    }
-    if day == 0 {
-        return false;
-    }
-    if day <= 28 + (MORE_DAYS >> (2 * month) & 3) {
-        return true;
-    }
-    (n % 10000 == 229) & (n / 10000 % 4 == 0)
-}
-
 // First is not after last.
+#[tactic(auto, unfolding(meaning::specs::Forms::holds, meaning::specs::Sound::days_fit))]
 pub fn days_fit(first: u32, last: u32) -> bool
     ensures { result ≡ days_fit first last }
 {
-    // With `&` the contract is one equation of Booleans, which a law of theirs shows; here and below.
-    let order = (20000000 <= first) & (first <= last) & (last < 21000000);
-    order & (is_date(first) & is_date(last))
+    is_day(first) && is_day(last) && first <= last
 }
 
-// A day, or 0 for none.
-#[tactic(auto, unfolding(meaning::specs::Forms::holds, crate::specs::Values::month_day))]
+// A day, or 0 for none. No other function asks it yet: the places of kept instructions are not tested.
+#[tactic(auto, unfolding(meaning::specs::Forms::holds))]
 pub fn day_or_none(n: u32) -> bool
     ensures { result ≡ holds (optional day) n }
 {
-    n == 0 || (2000..=2099).contains(&(n / 10000)) && is_date(n)
+    n == 0 || is_day(n)
 }
 
 #[tactic(auto, unfolding(meaning::specs::Forms::holds, meaning::specs::Sound::key_fits))]
@@ -59,29 +32,28 @@ pub fn key_fits(number: u8, object: u8) -> bool
         && (RestrictionType::INSTRUCTION..=RestrictionType::RESTRICTION).contains(&object)
 }
 
-fn capital(n: u32) -> bool
-    ensures { result ≡ is_capital n }
-{
-    (65..=90).contains(&n)
-}
-
-// The number of three capital letters, and of four.
+// The number of three capital letters, and of four; its lowest byte is the last letter. By &: the proof takes the tests
+// as one value.
 pub fn three_letters(n: u32) -> bool
     ensures { result ≡ is_word 3 n }
 {
-    capital(n % 256)
-        && capital(n / 256 % 256)
-        && capital(n / 256 / 256 % 256)
-        && n / 256 / 256 / 256 == 0
+    let [third, second, first, above] = n.to_le_bytes();
+    let front = first.is_ascii_uppercase() & (above == 0);
+    third.is_ascii_uppercase() & (second.is_ascii_uppercase() & front)
 }
 
+// Kept beside that of three: three letters ask of the byte above too, so one function would be told which bytes are
+// letters and be no plainer.
 pub fn four_letters(n: u32) -> bool
     ensures { result ≡ is_word 4 n }
 {
-    capital(n % 256) && three_letters(n / 256)
+    let [fourth, third, second, first] = n.to_le_bytes();
+    let low = third.is_ascii_uppercase() && fourth.is_ascii_uppercase();
+    first.is_ascii_uppercase() && second.is_ascii_uppercase() && low
 }
 
-// Attribute × 100 + value, each 1 to 99.
+// Attribute × 100 + value, each 1 to 99. Beside that of `line`: for one expression the reader of lines would need this
+// crate, and `places` with it.
 #[tactic(auto, unfolding(meaning::specs::Forms::holds))]
 pub fn is_code(n: u32) -> bool
     ensures { result ≡ holds code n }

@@ -10,6 +10,7 @@ use lib.Dec.{eqb, ltb}
 use lib.ListN.{length, get_or}
 use lib.Bits.{bit_and, and_mask}
 use lib.Pow.{shr-shr, pow_mono}
+use Rattle.std.proofs.lemmas.Bool.{le-ltb}
 use lib.Count.{ones, ones_step}
 use borrow.Author.Tests.{lt-ltb, ltb-true, eq-eqb, ne_eqb, eqb-true}
 use Rattle.tables.specs.Count.{bit, count, all_below}
@@ -68,9 +69,9 @@ ones_filled (x ∷ v) = omega (arith, ones_step (filled (x ∷ v)), filled_low x
 pub belongs_shift : (c i : ℕ) → bit_and (c / 2 ^ i) 1 ≡ c / 2 ^ i % 2
 belongs_shift c i = and_mask (c / 2 ^ i) 1
 
-pub belongs_none : (c i : ℕ) → c < 2 ^ 32 → 32 ≤ i → false ≡ belongs c i
+pub belongs_none : (c i : ℕ) → c < 2 ^ 32 → 32 ≤ i → ltb i 32 ≡ belongs c i
 unfolding belongs
-belongs_none c i h l = let e : c / 2 ^ i ≡ 0 = div-eq_of_lt (lt_of_lt_of_le h (pow_mono l)) in rw e
+belongs_none c i h l = let e : c / 2 ^ i ≡ 0 = div-eq_of_lt (lt_of_lt_of_le h (pow_mono l)) in rw (e, le-ltb i 32 l)
 
 pub fills_none : (c n : ℕ) (v : List ℕ) → n ≡ filled_count v → (ones c ≡ n → ⊥) → false ≡ eqb c (filled v)
 fills_none c n v e h = sym (ne_eqb c (filled v) (λ z. h (ap ones z ∙ ones_filled v ∙ sym e)))

@@ -1,5 +1,4 @@
 pub mod Ten
-pub mod Differences
 pub mod Filled
 pub mod Meets
 pub mod Nobody

@@ -19,27 +19,27 @@ use Rattle.records.specs.declared.InstructionAsk.TheVariants as Instructions
 
 unfoldable pub type_meets : TypeAsk → M.TypeRecord → Bool
 type_meets Types.Any t = true
-type_meets (Types.Named n o) t = is_type n o t
-type_meets (Types.Outside n o day) t = type_outside n o day t
+type_meets (Types.Named k) t = is_type k.number k.object t
+type_meets (Types.Outside k day) t = type_outside k.number k.object day t
 
 -- Fills and Other ask for the rule of a row
 unfoldable pub rule_meets : RuleAsk → M.Rule → Bool
 rule_meets Rules.Any r = true
-rule_meets (Rules.Named n o s) r = is_rule n o s r
+rule_meets (Rules.Named k) r = is_rule k.number k.object k.sequence r
 rule_meets (Rules.Fills w) r = fills_rule (row_of w) r
 rule_meets (Rules.Other w) r = other_criteria (row_of w) r
 
--- the row itself, or the rows of its rule
+-- the row itself, or the rows of a rule
 unfoldable pub row_meets : RowAsk → M.Row → Bool
 row_meets Rows.Any w = true
 row_meets (Rows.Same a) w = is_row (row_of a) w
-row_meets (Rows.OfRule a) w = of_rule a.number a.object a.sequence w
+row_meets (Rows.OfRule k) w = of_rule k.number k.object k.sequence w
 
 unfoldable pub period_meets : PeriodAsk → M.Period → Bool
 period_meets Periods.Any p = true
 period_meets (Periods.Clash a) p = clash (period_of a) p
-period_meets (Periods.Named kind number code first) p = is_period kind number code first p
-period_meets (Periods.Outside kind number code first last) p = period_outside kind number code first last p
+period_meets (Periods.Named k) p = is_period k.kind k.number k.code k.first p
+period_meets (Periods.Outside k day) p = period_outside k.kind k.number k.code k.first day p
 
 unfoldable pub instruction_meets : InstructionAsk → M.Kept → Bool
 instruction_meets Instructions.Any k = true

@@ -1,9 +1,9 @@
 // What is asked of one record by value, and the tests that others use.
 #![tactic(auto)]
 
-ghost use Rattle.std.specs.Prelude.{◌≡◌, ◌+◌, ◌<◌, ◌≤◌, Bool, true, eqb, ltb, refl};
+ghost use Rattle.std.specs.Prelude.{◌≡◌, ◌<◌, Bool, true, eqb, refl};
 ghost use Rattle.std.proofs.Common.{rules};
-ghost use Rattle.tables.specs.Count.{bit, all_below};
+ghost use Rattle.tables.specs.Count.{all_below};
 ghost use Rattle.tables.specs.Table.{Table};
 ghost use Rattle.meaning.specs.Records as M;
 ghost use Rattle.meaning.specs.Keys.{filled, is_rule};
@@ -12,49 +12,124 @@ ghost use Rattle.meaning.specs.Refusals.{outside};
 ghost use Rattle.meaning.specs.Pending.{held_since};
 ghost use Rattle.records.specs.Said.{type_of, rule_of, row_of, period_of, instruction_of};
 ghost use Rattle.records.specs.Criteria.{belongs, agrees, filled_count};
-ghost use Rattle.records.specs.Values.{first_difference};
+ghost use Rattle.records.specs.Keyed.{type_key, rule_key, row_key, period_key};
 ghost use Rattle.records.specs.Tables.{of_types, of_rules, of_rows, of_periods, table, kept};
 ghost use Rattle.records.specs.Asks.{type_meets, rule_meets, row_meets, period_meets, instruction_meets, type_all, rule_all, row_all, period_all, instruction_all};
 
 use places::{Kept, Period, Place, RestrictionType, Row, Rule};
 
-// ---- What is asked of a record.
+// ---- How the records of a depository are known (document 01, 'Records').
 
-// Outside: the type of that number and object, whose period does not hold the day.
+// A type.
+#[derive(Clone, Copy, PartialEq, Eq)]
+pub struct TypeKey {
+    pub number: u8,
+    pub object: u8,
+}
+
+// A rule, and each of its rows. The sequence, which differs most often, is compared first.
+#[derive(Clone, Copy, PartialEq, Eq)]
+pub struct RuleKey {
+    pub sequence: u8,
+    pub number: u8,
+    pub object: u8,
+}
+
+// A period. The first day, which differs most often, is compared first.
+#[derive(Clone, Copy, PartialEq, Eq)]
+pub struct PeriodKey {
+    pub first: u32,
+    pub code: u32,
+    pub number: u32,
+    pub kind: u8,
+}
+
+impl From<RestrictionType> for TypeKey {
+    ghost from_gives = { λ t key. key ≡ type_key t };
+
+    fn from(t: RestrictionType) -> TypeKey {
+        TypeKey {
+            number: t.number,
+            object: t.object,
+        }
+    }
+}
+
+impl From<Rule> for RuleKey {
+    ghost from_gives = { λ r key. key ≡ rule_key r };
+
+    fn from(r: Rule) -> RuleKey {
+        RuleKey {
+            sequence: r.sequence,
+            number: r.number,
+            object: r.object,
+        }
+    }
+}
+
+impl From<Row> for RuleKey {
+    ghost from_gives = { λ w key. key ≡ row_key w };
+
+    fn from(w: Row) -> RuleKey {
+        RuleKey {
+            sequence: w.sequence,
+            number: w.number,
+            object: w.object,
+        }
+    }
+}
+
+impl From<Period> for PeriodKey {
+    ghost from_gives = { λ p key. key ≡ period_key p };
+
+    fn from(p: Period) -> PeriodKey {
+        PeriodKey {
+            first: p.first,
+            code: p.code,
+            number: p.number,
+            kind: p.kind,
+        }
+    }
+}
+
+// ---- What is asked of a record. Enums of tests, and no closures: specs/ speak of `meets q`, and a question is handed
+// on from refusals and edits to book's passes; of a closure each call would show anew which test it is.
+
+// Outside: the type of that key, whose period does not hold the day.
 #[derive(Clone, Copy)]
 pub enum TypeAsk {
     Any,
-    Named(u8, u8),
-    Outside(u8, u8, u32),
+    Named(TypeKey),
+    Outside(TypeKey, u32),
 }
 
 // Fills and Other: the rule of the row, with exactly the criteria that the row fills, or with others.
 #[derive(Clone, Copy)]
 pub enum RuleAsk {
     Any,
-    Named(u8, u8, u8),
+    Named(RuleKey),
     Fills(Row),
     Other(Row),
 }
 
-// Same and OfRule: the row itself, and the rows of its rule.
+// Same and OfRule: the row itself, and the rows of a rule.
 #[derive(Clone, Copy)]
 pub enum RowAsk {
     Any,
     Same(Row),
-    OfRule(Row),
+    OfRule(RuleKey),
 }
 
-// Clash: of that kind, number and attribute, and shares a day.
+// Clash: of that kind, number and attribute, and shares a day. Outside: of that key, whose days don't hold the day.
 #[derive(Clone, Copy)]
 pub enum PeriodAsk {
     Any,
     Clash(Period),
-    Named(u8, u32, u32, u32),
-    Outside(u8, u32, u32, u32, u32),
+    Named(PeriodKey),
+    Outside(PeriodKey, u32),
 }
 
-// Held: the instruction of that reference, with that hold on.
+// Held: the instruction of that reference, with that hold on. The hold is a number for the reason at `held_since`.
 #[derive(Clone, Copy)]
 pub enum InstructionAsk {
     Any,
@@ -98,72 +173,57 @@ pub trait Record: Place {
 pub fn belongs(criteria: u32, i: u8) -> bool
     ensures { result ≡ belongs criteria i }
 {
-    if i < 32 {
-        criteria >> i & 1 == 1
-    } else {
-        false
-    }
-}
-
-fn filled_five(a: u32, b: u32, c: u32, d: u32, e: u32) -> u16
-    ensures { (result ≡ bit (ltb 0 a) + bit (ltb 0 b) + bit (ltb 0 c) + bit (ltb 0 d) + bit (ltb 0 e)) × (result ≤ 5) }
-{
-    u16::from(0 < a) + u16::from(0 < b) + u16::from(0 < c) + u16::from(0 < d) + u16::from(0 < e)
+    i < 32 && criteria >> i & 1 == 1
 }
 
 // How many values are filled.
-pub fn filled_count(v: [u32; 10]) -> u16
+pub fn filled_count(v: [u32; 10]) -> usize
     ensures { result ≡ filled_count v }
 {
-    let low = filled_five(v[0], v[1], v[2], v[3], v[4]);
-    let high = filled_five(v[5], v[6], v[7], v[8], v[9]);
-    low + high
+    v.iter().filter(|&&x| 0 < x).count()
 }
 
 // Each of the ten criteria belongs to the criteria exactly if its value is filled.
 fn all_agree(criteria: u32, v: [u32; 10]) -> bool
     ensures { result ≡ all_below (agrees criteria v) 10 }
 {
-    let mut ok = true;
-    for i in 0..10 {
-        let k = i as usize;
-        ok = ok & (u16::from(belongs(criteria, i)) == u16::from(0 < v[k]));
-    }
-    ok
+    (0..10).all(|i: u8| belongs(criteria, i) == (0 < v[usize::from(i)]))
 }
 
 // A row fills exactly as many fields as its rule has criteria, and the same ones.
 pub fn fills(criteria: u32, v: [u32; 10]) -> bool
     ensures { result ≡ eqb criteria (filled v) }
 {
-    if u32::count_ones(criteria) != filled_count(v) as u32 {
+    if criteria.count_ones() as usize != filled_count(v) {
         return false;
     }
     // `&`, since the proof takes the two as one value; both are pure.
     (criteria < 1024) & all_agree(criteria, v)
 }
 
-// ---- Whether a record is as asked (document 01, 'Records').
+// ---- Whether a record is as asked (document 01, 'Records'). Each test names the key or the days of its own record in
+// one expression: one function over all records would take them from methods of these same lines.
 
-// The day is before the record's first or after its present last.
+// The day is before the record's first or after its present last. `matching`, which stands above, has `covers`, the
+// opposite: each is one expression.
 fn is_outside(day: u32, first: u32, last: u32) -> bool
     ensures { result ≡ outside day first last }
 {
-    day < first || last < day
+    !(first..=last).contains(&day)
 }
 
 #[tactic(auto, unfolding(crate::specs::Asks::type_meets, crate::specs::Said::type_of, meaning::specs::Keys::is_type))]
-fn is_type(t: RestrictionType, number: u8, object: u8) -> bool
-    ensures { result ≡ type_meets (TypeAsk.Named number object) (type_of t) }
+fn is_type(t: RestrictionType, key: TypeKey) -> bool
+    ensures { result ≡ type_meets (TypeAsk.Named key) (type_of t) }
 {
-    t.number == number && t.object == object
+    TypeKey::from(t) == key
 }
 
 #[tactic(auto, unfolding(crate::specs::Asks::type_meets, crate::specs::Said::type_of, meaning::specs::Refusals::type_outside))]
-fn type_outside(t: RestrictionType, number: u8, object: u8, day: u32) -> bool
-    ensures { result ≡ type_meets (TypeAsk.Outside number object day) (type_of t) }
+fn type_outside(t: RestrictionType, key: TypeKey, day: u32) -> bool
+    ensures { result ≡ type_meets (TypeAsk.Outside key day) (type_of t) }
 {
-    is_type(t, number, object) & is_outside(day, t.first, t.last)
+    is_type(t, key) && is_outside(day, t.first, t.last)
 }
 
 impl Record for RestrictionType {
@@ -188,8 +248,8 @@ impl Record for RestrictionType {
     fn meets(self, q: TypeAsk) -> bool {
         match q {
             TypeAsk::Any => true,
-            TypeAsk::Named(number, object) => is_type(self, number, object),
-            TypeAsk::Outside(number, object, day) => type_outside(self, number, object, day),
+            TypeAsk::Named(key) => is_type(self, key),
+            TypeAsk::Outside(key, day) => type_outside(self, key, day),
         }
     }
 
@@ -199,24 +259,24 @@ impl Record for RestrictionType {
 }
 
 #[tactic(auto, unfolding(crate::specs::Said::rule_of, meaning::specs::Keys::is_rule))]
-fn is_rule(t: Rule, number: u8, object: u8, sequence: u8) -> bool
-    ensures { result ≡ is_rule number object sequence (rule_of t) }
+fn is_rule(t: Rule, key: RuleKey) -> bool
+    ensures { result ≡ is_rule key.number key.object key.sequence (rule_of t) }
 {
-    t.sequence == sequence && t.number == number && t.object == object
+    RuleKey::from(t) == key
 }
 
 #[tactic(auto, unfolding(crate::specs::Asks::rule_meets, crate::specs::Said::row_of, crate::specs::Said::rule_of, meaning::specs::Sound::fills_rule))]
 fn fills_rule(t: Rule, w: Row) -> bool
     ensures { result ≡ rule_meets (RuleAsk.Fills w) (rule_of t) }
 {
-    is_rule(t, w.number, w.object, w.sequence) && fills(t.criteria, w.values)
+    is_rule(t, RuleKey::from(w)) && fills(t.criteria, w.values)
 }
 
 #[tactic(auto, unfolding(crate::specs::Asks::rule_meets, crate::specs::Said::row_of, crate::specs::Said::rule_of, meaning::specs::Refusals::other_criteria))]
 fn other_criteria(t: Rule, w: Row) -> bool
     ensures { result ≡ rule_meets (RuleAsk.Other w) (rule_of t) }
 {
-    is_rule(t, w.number, w.object, w.sequence) && !fills(t.criteria, w.values)
+    is_rule(t, RuleKey::from(w)) && !fills(t.criteria, w.values)
 }
 
 impl Record for Rule {
@@ -241,7 +301,7 @@ impl Record for Rule {
     fn meets(self, q: RuleAsk) -> bool {
         match q {
             RuleAsk::Any => true,
-            RuleAsk::Named(number, object, sequence) => is_rule(self, number, object, sequence),
+            RuleAsk::Named(key) => is_rule(self, key),
             RuleAsk::Fills(w) => fills_rule(self, w),
             RuleAsk::Other(w) => other_criteria(self, w),
         }
@@ -252,37 +312,18 @@ impl Record for Rule {
     }
 }
 
-// The lowest index at which two rows' values differ, 10 where they are the same.
-pub fn first_difference(a: [u32; 10], b: [u32; 10]) -> u8
-    ensures { result ≡ first_difference a b }
-{
-    for i in 0..10u8 {
-        let k = i as usize;
-        if a[k] != b[k] {
-            return i;
-        }
-    }
-    10
-}
-
-fn same_values(a: [u32; 10], b: [u32; 10]) -> bool
-    ensures { result ≡ same a b }
-{
-    first_difference(a, b) == 10
-}
-
 #[tactic(auto, unfolding(crate::specs::Asks::row_meets, crate::specs::Said::row_of, meaning::specs::Keys::of_rule))]
-fn of_rule(t: Row, w: Row) -> bool
-    ensures { result ≡ row_meets (RowAsk.OfRule w) (row_of t) }
+fn of_rule(t: Row, key: RuleKey) -> bool
+    ensures { result ≡ row_meets (RowAsk.OfRule key) (row_of t) }
 {
-    t.sequence == w.sequence && t.number == w.number && t.object == w.object
+    RuleKey::from(t) == key
 }
 
 #[tactic(auto, unfolding(crate::specs::Asks::row_meets, crate::specs::Said::row_of, meaning::specs::Keys::is_row))]
 fn is_row(t: Row, w: Row) -> bool
     ensures { result ≡ row_meets (RowAsk.Same w) (row_of t) }
 {
-    of_rule(t, w) && same_values(w.values, t.values)
+    of_rule(t, RuleKey::from(w)) && w.values == t.values
 }
 
 impl Record for Row {
@@ -308,7 +349,7 @@ impl Record for Row {
         match q {
             RowAsk::Any => true,
             RowAsk::Same(w) => is_row(self, w),
-            RowAsk::OfRule(w) => of_rule(self, w),
+            RowAsk::OfRule(key) => of_rule(self, key),
         }
     }
 
@@ -318,26 +359,28 @@ impl Record for Row {
 }
 
 #[tactic(auto, unfolding(crate::specs::Asks::period_meets, crate::specs::Said::period_of, meaning::specs::Keys::is_period))]
-fn is_period(t: Period, kind: u8, number: u32, code: u32, first: u32) -> bool
-    ensures { result ≡ period_meets (PeriodAsk.Named kind number code first) (period_of t) }
+fn is_period(t: Period, key: PeriodKey) -> bool
+    ensures { result ≡ period_meets (PeriodAsk.Named key) (period_of t) }
 {
-    t.first == first && t.code == code && t.number == number && t.kind == kind
+    PeriodKey::from(t) == key
 }
 
 #[tactic(auto, unfolding(crate::specs::Asks::period_meets, crate::specs::Said::period_of, meaning::specs::Keys::is_period, meaning::specs::Refusals::period_outside))]
-fn period_outside(t: Period, kind: u8, number: u32, code: u32, first: u32, last: u32) -> bool
-    ensures { result ≡ period_meets (PeriodAsk.Outside kind number code first last) (period_of t) }
+fn period_outside(t: Period, key: PeriodKey, day: u32) -> bool
+    ensures { result ≡ period_meets (PeriodAsk.Outside key day) (period_of t) }
 {
-    is_period(t, kind, number, code, first) & is_outside(last, t.first, t.last)
+    is_period(t, key) && is_outside(day, t.first, t.last)
 }
 
-// First and last day both count.
+// First and last day both count. Field by field: a struct of kind, number and attribute would be compared here alone.
+// `&`, since the proof takes the tests as one value; all are pure.
 #[tactic(auto, unfolding(crate::specs::Asks::period_meets, crate::specs::Said::period_of, meaning::specs::Keys::clash))]
 fn clashes(t: Period, p: Period) -> bool
     ensures { result ≡ period_meets (PeriodAsk.Clash p) (period_of t) }
 {
-    let of = t.kind == p.kind && t.number == p.number && t.code / 100 == p.code / 100;
-    of && t.first <= p.last && p.first <= t.last
+    let attribute = t.code / 100 == p.code / 100;
+    let of = (t.kind == p.kind) & (t.number == p.number) & attribute;
+    of & (t.first <= p.last) & (p.first <= t.last)
 }
 
 impl Record for Period {
@@ -363,12 +406,8 @@ impl Record for Period {
         match q {
             PeriodAsk::Any => true,
             PeriodAsk::Clash(p) => clashes(self, p),
-            PeriodAsk::Named(kind, number, code, first) => is_period(
-                self, kind, number, code, first,
-            ),
-            PeriodAsk::Outside(kind, number, code, first, last) => {
-                period_outside(self, kind, number, code, first, last)
-            }
+            PeriodAsk::Named(key) => is_period(self, key),
+            PeriodAsk::Outside(key, day) => period_outside(self, key, day),
         }
     }
 
@@ -377,7 +416,8 @@ impl Record for Period {
     }
 }
 
-// The day since which a hold is on; 0 where it is off.
+// The day since which a hold is on; 0 where it is off, as in the place and in the written meaning. The hold is a
+// processing's number, as a line gives it: another number is no hold, and an enum would ask more of callers.
 #[tactic(auto, unfolding(crate::specs::Said::instruction_of, meaning::specs::Pending::held_since))]
 pub fn held_since(t: Kept, hold: u8) -> u32
     ensures { result ≡ held_since (instruction_of t) hold }
@@ -391,6 +431,7 @@ pub fn held_since(t: Kept, hold: u8) -> u32
     }
 }
 
+// `&`, since the proof takes the two as one value; both are pure.
 #[tactic(auto, unfolding(crate::specs::Asks::instruction_meets, crate::specs::Said::instruction_of, meaning::specs::Pending::held_by, meaning::specs::Pending::is_held, meaning::specs::Keys::is_kept))]
 fn is_held(t: Kept, reference: u32, hold: u8) -> bool
     ensures { result ≡ instruction_meets (InstructionAsk.Held reference hold) (instruction_of t) }

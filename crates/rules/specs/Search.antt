@@ -1,20 +1,17 @@
--- What a search over a list of rules finds: the sequence of the first rule that is positive and matches, or nothing.
--- Assumes nothing.
-use Rattle.std.specs.Prelude.{ℕ, Bool, false, ◌&&◌, cond, List, [], ◌∷◌, eqb, Option, Some, None, unwrap_or}
+-- What a search over a list of rules that match finds: the sequence of the first one that is positive, or nothing. A
+-- place of the list may be without a rule. Assumes nothing.
+use Rattle.std.specs.Prelude.{ℕ, Bool, cond, List, [], ◌∷◌, eqb, Option, Some, None, unwrap_or}
 use Rattle.meaning.specs.Records.{positive}
 use Rattle.rules.specs.declared.ListedRule.{ListedRule}
 
--- what stands past the end of a list
-abbrev pub no_rule : ListedRule
-no_rule = record { sequence = 0; sign = 0; matches = false }
-
--- a matching positive rule
+-- a positive rule; each that is listed matches
 abbrev pub may_decide : ListedRule → Bool
-may_decide r = eqb r.sign positive && r.matches
+may_decide r = eqb r.sign positive
 
-unfoldable pub first_positive : List ListedRule → Option ℕ
+unfoldable pub first_positive : List (Option ListedRule) → Option ℕ
 first_positive [] = None
-first_positive (r ∷ rs) = cond (may_decide r) (Some r.sequence) (first_positive rs)
+first_positive (None ∷ rs) = first_positive rs
+first_positive (Some r ∷ rs) = cond (may_decide r) (Some r.sequence) (first_positive rs)
 
 -- the sequence that is named, 0 for none
 abbrev pub sequence_of : Option ℕ → ℕ

@@ -1,5 +1,5 @@
-// The rules of a type, looked through in rising sequence (document 01, 'How a question is judged'). The work on one
-// rule is done by value, and the search over the lent slice only reads a rule, asks and returns.
+// The rules of a type, looked through in rising sequence (document 01, 'How a question is judged'). A loop over
+// the lent slice, which document 01 names.
 #![tactic(auto)]
 
 ghost use Rattle.std.specs.Prelude.{◌≡◌};
@@ -7,28 +7,31 @@ ghost use Rattle.rules.specs.Search.{may_decide, first_positive};
 
 use places::Rule;
 
-// A rule of a type, as judged: whether it matches the question.
+// A rule of a type that matches the question. The sign is a number as in a `Rule`: `first_positive` takes any, and an
+// enum would ask more of its callers.
 #[derive(Clone, Copy)]
 pub struct ListedRule {
     pub sequence: u8,
     pub sign: u8,
-    pub matches: bool,
 }
 
-// A positive rule that matches decides, unless one before it does.
+// A positive rule decides, unless one before it does.
 fn may_decide(r: ListedRule) -> bool
     ensures { result ≡ may_decide r }
 {
-    r.sign == Rule::POSITIVE && r.matches
+    r.sign == Rule::POSITIVE
 }
 
-// The sequence of the first matching positive rule, in the order of the slice, if there is one.
-pub fn first_positive(rules: &[ListedRule]) -> Option<u8>
+// The sequence of the first positive rule, in the order of the slice, if there is one. Where no rule matches, none is
+// listed.
+pub fn first_positive(rules: &[Option<ListedRule>]) -> Option<u8>
     ensures { result ≡ first_positive rules.now }
 {
-    for r in rules {
-        if may_decide(*r) {
-            return Some(r.sequence);
+    for place in rules {
+        if let Some(r) = *place {
+            if may_decide(r) {
+                return Some(r.sequence);
+            }
         }
     }
     None

@@ -1,8 +1,11 @@
 -- The table of shapes (document 01, 'Lines'; document 02, request b) as the code names its forms, fields and rows.
 -- Assumes nothing.
-use Rattle.std.specs.Prelude.{List}
+use Rattle.std.specs.Prelude.{ℕ, List, []}
 use Rattle.meaning.specs.Forms.{
   Form,
+  letters,
+  up_to,
+  one_of,
   optional,
   csd_form,
   type_form,
@@ -78,6 +81,15 @@ plain_form Payment = payment_form
 plain_form Transaction = transaction_form
 plain_form Wish = wish_form
 plain_form Currency = currency_form
+
+-- the words of a form, where it is a choice of words
+unfoldable pub words_of : Form → List (List ℕ)
+words_of (up_to n) = []
+words_of code = []
+words_of day = []
+words_of (letters n) = []
+words_of (one_of ws) = ws
+words_of (optional φ) = []
 
 abbrev pub field_of : Field → Form
 field_of (Filled f) = plain_form f

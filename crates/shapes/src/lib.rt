@@ -4,7 +4,7 @@
 
 ghost use Rattle.std.specs.Prelude.{◌≡◌, ◌≤◌, length, map};
 ghost use Rattle.meaning.specs.Forms.{letter_byte};
-ghost use Rattle.shapes.specs.Table.{field_of, forms_of, row_of};
+ghost use Rattle.shapes.specs.Table.{plain_form, words_of, field_of, forms_of, row_of};
 
 use Field::{Filled, Optional};
 use Form::{
@@ -36,6 +36,35 @@ pub enum Form {
     Transaction,
     Wish,
     Currency,
+}
+
+// The words of the forms that are one of a few, in their order: a word's place, from 1 on, is its number.
+static SIGNS: [&[u8]; 2] = [b"P", b"N"];
+
+static KINDS: [&[u8]; 3] = [b"P", b"A", b"S"];
+
+static MOVEMENTS: [&[u8]; 2] = [b"DELI", b"RECE"];
+
+static PAYMENTS: [&[u8]; 2] = [b"APMT", b"FREE"];
+
+static WISHES: [&[u8]; 2] = [b"Y", b"N"];
+
+impl Form {
+    // The words of a form; none, where it is no choice of words.
+    #[tactic(auto, unfolding(crate::specs::Table::words_of))]
+    pub fn words(self) -> &'static [&'static [u8]]
+        ensures words { map (λ w. w.now) result.now ≡ words_of (plain_form self) }
+        ensures few { length result.now ≤ 3 }
+    {
+        match self {
+            Form::Sign => &SIGNS,
+            Form::Kind => &KINDS,
+            Form::Movement => &MOVEMENTS,
+            Form::Payment => &PAYMENTS,
+            Form::Wish => &WISHES,
+            _ => &[],
+        }
+    }
 }
 
 // A field of a row: of a form, or of a form or empty.
@@ -176,6 +205,7 @@ impl Shape {
     ];
 
     // The letter of a row.
+    #[tactic(auto, unfolding(crate::specs::Table::row_of))]
     pub fn letter(self) -> u8
         ensures { result ≡ letter_byte (row_of self).letter }
     {
@@ -195,6 +225,7 @@ impl Shape {
     }
 
     // The fields after a row's letter.
+    #[tactic(auto, unfolding(crate::specs::Table::forms_of))]
     pub fn fields(self) -> &'static [Field]
         ensures forms { map field_of result.now ≡ forms_of self }
         ensures few { length result.now ≤ 15 }

@@ -1,25 +1,27 @@
 -- Ranges by the numbers read at a place, and the criteria that a row's values fill.
-use Rattle.std.proofs.Common.{◌≡◌, ℕ, zero, suc, ◌+◌, ◌*◌, Bool, true, false, not, ◌&&◌, ◌||◌, eqb, leb, List, [], ◌∷◌, drop, sym, refl, ap, ap₂, ◌∙◌, arith, le-leb, ne_eqb}
+use Rattle.std.proofs.Common.{◌≡◌, ℕ, zero, suc, Bool, true, false, not, ◌&&◌, ◌||◌, eqb, leb, List, [], ◌∷◌, drop, sym, refl, ap, ap₂, ◌∙◌, arith, le-leb, ne_eqb, eq-eqb, eqb-true}
 use Rattle.std.specs.Prelude.{Option, Some, None}
-use mathlib.Core.Bool.{and-true, and-false}
+use mathlib.Core.Bool.{and-true, and-false, false≢true}
 use borrow.Author.Tests.{not-true, not-false}
 use Rattle.tables.specs.Bytes.{one, two, three, four, number}
 use Rattle.tables.specs.Count.{bit}
 use Rattle.tables.proofs.Counts.{cases}
 use Rattle.meaning.specs.Fields.{within}
-use Rattle.meaning.specs.Forms.{Form, code, holds, holds_all, optional, up_to, party_type_form, movement_form, payment_form, number_form, transaction_form, currency_form, ten_values}
+use Rattle.meaning.specs.Forms.{Form, letters, is_word, code, holds, holds_all, optional, up_to, party_type_form, movement_form, payment_form, number_form, transaction_form, currency_form, ten_values}
 use Rattle.meaning.specs.Keys.{filled}
 use Rattle.meaning.specs.Sound.{days_fit, key_fits, type_fits, rule_fits, period_fits}
 use Rattle.records.specs.Said.{type_of, rule_of, period_of}
 use Rattle.soundness.specs.Reads.{type_read, rule_read, row_read, period_read, key_holds}
-use Rattle.soundness.specs.Alike.{filled_in, filled_or_none, one_more}
+use Rattle.soundness.specs.Alike.{OrNone, filled_in, filled_or_none, one_more}
+use Rattle.soundness.specs.Kinds.{fit_at}
+use Rattle.soundness.specs.Kind as Kinds
 use Rattle.soundness.proofs.Options.{some_none, some_same}
 
 module _ (b : List ℕ) (at : ℕ) where
   pub type_fits_lem : {x o p f l : ℕ} {k d : Bool} → k ≡ key_fits x o → d ≡ days_fit f l → x ≡ number one b at 1
       → o ≡ number one b at 2 → p ≡ number one b at 3 → f ≡ number four b at 4 → l ≡ number four b at 8
-      → (k && ((within 1 3 p && not (eqb p 3 && eqb o 2)) && d)) ≡ type_fits (type_of (type_read b at))
-  unfolding type_fits type_of type_read holds
+      → (k && ((within 1 3 p && not (eqb p 3 && eqb o 2)) && d)) ≡ fit_at b Kinds.Types at
+  unfolding fit_at type_fits type_of type_read holds
   type_fits_lem k l m n o p q = rw (k, l, m, n, o, p, q)
 
   pub key_fits_lem : {x o q : ℕ} {k : Bool} → k ≡ key_fits x o → x ≡ number one b at 1 → o ≡ number one b at 2
@@ -35,9 +37,21 @@ module _ (b : List ℕ) (at : ℕ) where
 
   pub period_fits_lem : {x n c f l : ℕ} {m d : Bool} → m ≡ holds code c → d ≡ days_fit f l → x ≡ number one b at 1
       → n ≡ number three b at 2 → c ≡ number two b at 5 → f ≡ number four b at 7 → l ≡ number four b at 11
-      → ((within 1 3 x && within 1 999999 n) && (m && d)) ≡ period_fits (period_of (period_read b at))
-  unfolding period_fits period_of period_read holds
+      → ((within 1 3 x && within 1 999999 n) && (m && d)) ≡ fit_at b Kinds.Periods at
+  unfolding fit_at period_fits period_of period_read holds
   period_fits_lem j k l m n o p = rw (j, k, l, m, n, o, p)
+
+-- ---- values, empty or as asked
+
+pub or_none_holds : (φ : Form) {x : ℕ} {r : Bool} → OrNone x (λ t. t ≡ holds φ x) r → r ≡ holds (optional φ) x
+unfolding holds
+or_none_holds φ {x} {r} m =
+    cases (eqb x 0) (λ t. rw t (m.empty (eqb-true x 0 t)))
+    (λ t. rw t (m.asked (λ e. false≢true (sym t ∙ eq-eqb x 0 e))))
+
+pub word_or_none : (k : ℕ) {x : ℕ} {r : Bool} → OrNone x (λ t. t ≡ is_word k x) r → r ≡ holds (optional (letters k)) x
+unfolding holds
+word_or_none k m = or_none_holds (letters k) m
 
 -- ---- criteria
 

@@ -1,5 +1,5 @@
 -- Free places by their words: words are 0 exactly if all their bytes are.
-use Rattle.std.proofs.Common.{◌≡◌, ℕ, zero, suc, ◌+◌, ◌-◌, ◌*◌, ◌<◌, ◌≤◌, Bool, true, false, not, ◌&&◌, eqb, ltb, List, [], ◌∷◌, ◌++◌, length, get_or, sym, refl, ap, ◌∙◌, add-mul, mul-le-mul, arith, ltb-false, ltb-true, eq-eqb, eqb-true}
+use Rattle.std.proofs.Common.{◌≡◌, ℕ, zero, suc, ◌+◌, ◌-◌, ◌*◌, ◌<◌, ◌≤◌, Bool, true, false, not, ◌&&◌, eqb, ltb, List, [], ◌∷◌, ◌++◌, get_or, sym, refl, ap, ◌∙◌, add-mul, mul-le-mul, arith, ltb-false, ltb-true, eq-eqb, eqb-true}
 use mathlib.Core.Bool.{and_assoc, and-true, and-false}
 use lib.Bits.{bit_or, and_le_l, and_le_r, or_add_and}
 use borrow.Author.Tests.{not-false}
@@ -10,12 +10,11 @@ use Rattle.places.specs.Layout.{book_size}
 use Rattle.chains.specs.Sizes.{block_places}
 use Rattle.chains.specs.Blocks.{zero_from, Wide, FreeFirst}
 use Rattle.records.specs.Free.{all_zero, type_zero, rule_zero, row_zero, period_zero}
-use Rattle.soundness.specs.Reads.{type_read, rule_read, row_read, period_read, eight_at}
-use Rattle.soundness.specs.Buckets.{front_word, tail_word}
+use Rattle.soundness.specs.Reads.{type_read, rule_read, row_read, period_read, eight_at, seven_after}
 use Rattle.soundness.specs.Kind as Kinds
 use Rattle.soundness.specs.Kinds.{free_at}
 use Rattle.soundness.proofs.WordReads.{words_zero}
-use Rattle.soundness.proofs.SameWords.{rule_key_widths, kind_widths, front_widths, middle_widths, tail_widths, rule_key_word, kind_word, front_word_lem, middle_word_lem, tail_word_lem}
+use Rattle.soundness.proofs.SameWords.{rule_key_widths, kind_widths, front_widths, middle_widths, tail_widths, rule_key_word, kind_word, front_word_lem, middle_word_lem, tail_word_lem, front_read, tail_read}
 
 -- ---- places
 
@@ -49,15 +48,15 @@ module _ (b : List ℕ) (at : ℕ) where
       (ap (λ (t : Bool). all_zero (numbers rule_key_widths b at 0) && t) (zero_split (numbers (one ∷ two ∷ []) b at 4) (numbers day_widths b at 7))
       ∙ zero_split (numbers rule_key_widths b at 0) (numbers (one ∷ two ∷ []) b at 4 ++ numbers day_widths b at 7))
 
-  pub row_free : {x y z w : ℕ} → x ≡ number four b at 0 → y ≡ front_word (row_read b at).values → z ≡ eight_at b at 11
-      → w ≡ tail_word (row_read b at).values → ((eqb x 0 && eqb y 0) && (eqb z 0 && eqb w 0)) ≡ free_at b Kinds.Rows at
+  pub row_free : {x y z w : ℕ} → x ≡ number four b at 0 → y ≡ seven_after b at 3 → z ≡ eight_at b at 11
+      → w ≡ seven_after b at 18 → ((eqb x 0 && eqb y 0) && (eqb z 0 && eqb w 0)) ≡ free_at b Kinds.Rows at
   unfolding free_at row_zero row_read
   row_free {x} {y} {z} {w} e f g h =
       rw (
         key_zero e,
-        words_zero front_widths b at 4 y (f ∙ front_word_lem b at),
+        words_zero front_widths b at 4 y (front_read b at f ∙ front_word_lem b at),
         words_zero middle_widths b at 11 z (g ∙ middle_word_lem b at),
-        words_zero tail_widths b at 19 w (h ∙ tail_word_lem b at),
+        words_zero tail_widths b at 19 w (tail_read b at h ∙ tail_word_lem b at),
         zero_split (numbers rule_key_widths b at 0) (numbers front_widths b at 4),
         zero_split (numbers middle_widths b at 11) (numbers tail_widths b at 19),
       )

@@ -1,5 +1,5 @@
 -- What the functions over one place, a block of places and a whole table leave to show, for any kind.
-use Rattle.std.proofs.Common.{◌≡◌, ℕ, ◌+◌, ◌*◌, ◌/◌, ◌%◌, ◌<◌, ◌≤◌, Bool, true, false, not, ltb, List, get_or, set, sym, refl, ap, ◌∙◌, arith, ltb-true, lt-ltb, le-leb}
+use Rattle.std.proofs.Common.{◌≡◌, ℕ, ◌+◌, ◌*◌, ◌/◌, ◌<◌, ◌≤◌, Bool, true, false, not, ltb, List, get_or, set, sym, refl, ap, ◌∙◌, arith, ltb-true, lt-ltb, le-leb}
 use Rattle.std.specs.Prelude.{Option, Some, None}
 use mathlib.Core.Bool.{and-false, false≢true}
 use borrow.Author.Tests.{lt-leb, not-true, not-false}
@@ -12,7 +12,7 @@ use Rattle.chains.specs.Blocks.{zero_from, Wide, FreeFirst}
 use Rattle.chains.specs.declared.Seen.{Seen}
 use Rattle.chains.specs.Chains.{Tallied, Entered, Ready, Passed, Going, Block, AllPassed, NoneSeen}
 use Rattle.chains.proofs.Chaining.{chained_counted}
-use Rattle.chains.proofs.ChainPassing.{passed_free, passed_over_lem, passed_unfit, passed_held, passed_entered, going_none, going_on, block_fails, block_end, blocks_on, blocks_fail, going_end}
+use Rattle.chains.proofs.ChainPassing.{passed_free, passed_over_lem, passed_unfit, passed_held, passed_entered, going_none, going_on, block_fails, blocks_on, blocks_fail, going_end}
 use Rattle.chains.proofs.Blocking.{going_over}
 use Rattle.soundness.specs.Kind.{Kind}
 use Rattle.soundness.specs.Kinds.{table_of, address_of, csd_at, free_at, bucket_at, fit_at, lone_at, csd_of, free_of, bucket_of, same_of, fit_of, right_of, ChainedOf}

@@ -8,7 +8,7 @@ use Rattle.meaning.specs.Sound.{fills_rule}
 use Rattle.meaning.specs.Text.{same}
 use Rattle.records.specs.Said.{type_of, rule_of, row_of, period_of}
 use Rattle.records.specs.Asks.{type_meets, rule_meets, row_meets, period_meets}
-use Rattle.soundness.specs.Reads.{Bytes, type_read, rule_read, row_read, period_read, eight_at}
+use Rattle.soundness.specs.Reads.{Bytes, type_read, rule_read, row_read, period_read, eight_at, seven_after}
 use Rattle.soundness.specs.Alike.{type_alike, rule_alike, row_alike, period_alike, typed_by, ruled_by}
 use Rattle.soundness.specs.Buckets.{front_word, middle_word, tail_word}
 use Rattle.soundness.specs.Kind as Kinds
@@ -58,13 +58,19 @@ module _ (b : List ℕ) (at : ℕ) where
 
   -- the lowest byte is not theirs
 
-  pub front_read : {x : ℕ} → Bytes b → x ≡ eight_at b at 3 → x / 256 ≡ front_word (row_read b at).values
-  unfolding front_word row_read
-  front_read h e = omega (arith, e, h.each (at + 3))
+  pub seven_read : {x : ℕ} (j : ℕ) → Bytes b → x ≡ eight_at b at j → x / 256 ≡ seven_after b at j
+  seven_read j h e =
+      let s : at + (j + 1 + 1) ≡ at + (j + 2) = omega arith in
+      let t : at + (j + 1 + 2) ≡ at + (j + 3) = omega arith in
+      rw (s, t) (omega (arith, e, h.each (at + j)))
 
-  pub tail_read : {x : ℕ} → Bytes b → x ≡ eight_at b at 18 → x / 256 ≡ tail_word (row_read b at).values
+  pub front_read : {x : ℕ} → x ≡ seven_after b at 3 → x ≡ front_word (row_read b at).values
+  unfolding front_word row_read
+  front_read e = omega (arith, e)
+
+  pub tail_read : {x : ℕ} → x ≡ seven_after b at 18 → x ≡ tail_word (row_read b at).values
   unfolding tail_word row_read
-  tail_read h e = omega (arith, e, h.each (at + 18))
+  tail_read e = omega (arith, e)
 
   pub middle_read : eight_at b at 11 ≡ middle_word (row_read b at).values
   unfolding middle_word row_read
@@ -177,14 +183,16 @@ module _ (b : List ℕ) (at other : ℕ) (h : Bytes b) where
       (same_split (numbers middle_widths b at 11) (numbers middle_widths b other 11) (numbers tail_widths b at 19) (numbers tail_widths b other 19) refl)
 
   module _ {x y : ℕ} where
-    front_same : x ≡ front_word mine → y ≡ front_word theirs → eqb x y ≡ part front_widths 4
-    front_same e f = words_same front_widths b at other 4 x y h (e ∙ front_word_lem b at) (f ∙ front_word_lem b other)
+    front_same : x ≡ seven_after b at 3 → y ≡ seven_after b other 3 → eqb x y ≡ part front_widths 4
+    front_same e f =
+        words_same front_widths b at other 4 x y h (front_read b at e ∙ front_word_lem b at) (front_read b other f ∙ front_word_lem b other)
 
     middle_same : x ≡ eight_at b at 11 → y ≡ eight_at b other 11 → eqb x y ≡ part middle_widths 11
     middle_same e f = words_same middle_widths b at other 11 x y h (e ∙ middle_word_lem b at) (f ∙ middle_word_lem b other)
 
-    tail_same : x ≡ tail_word mine → y ≡ tail_word theirs → eqb x y ≡ part tail_widths 19
-    tail_same e f = words_same tail_widths b at other 19 x y h (e ∙ tail_word_lem b at) (f ∙ tail_word_lem b other)
+    tail_same : x ≡ seven_after b at 18 → y ≡ seven_after b other 18 → eqb x y ≡ part tail_widths 19
+    tail_same e f =
+        words_same tail_widths b at other 19 x y h (tail_read b at e ∙ tail_word_lem b at) (tail_read b other f ∙ tail_word_lem b other)
 
   -- beside the rule's key the values decide
   module _ {x y : ℕ} (mine_key : x ≡ number four b other 0) (their_key : y ≡ number four b at 0) where
@@ -196,7 +204,7 @@ module _ (b : List ℕ) (at other : ℕ) (h : Bytes b) where
     unfolding alike_at row_alike row_read row_meets is_row of_rule row_of
     row_said q = key_yes b at other h mine_key their_key q (same mine theirs)
 
-    module _ {u v : ℕ} (q : x ≡ y) (mine_front : u ≡ front_word mine) (their_front : v ≡ front_word theirs) where
+    module _ {u v : ℕ} (q : x ≡ y) (mine_front : u ≡ seven_after b at 3) (their_front : v ≡ seven_after b other 3) where
       pub row_front_no : (u ≡ v → ⊥) → false ≡ alike_at b Kinds.Rows at other
       row_front_no n =
           first_no (part front_widths 4) (part middle_widths 11 && part tail_widths 19) (sym (front_same mine_front their_front) ∙ ne_eqb u v n)
@@ -211,7 +219,7 @@ module _ (b : List ℕ) (at other : ℕ) (h : Bytes b) where
             ∙ sym values_split
             ∙ row_said q
 
-        pub row_alike_lem : {s t : ℕ} → m ≡ k → s ≡ tail_word mine → t ≡ tail_word theirs
+        pub row_alike_lem : {s t : ℕ} → m ≡ k → s ≡ seven_after b at 18 → t ≡ seven_after b other 18
             → eqb s t ≡ alike_at b Kinds.Rows at other
         row_alike_lem {s} {t} o e f =
             tail_same e f

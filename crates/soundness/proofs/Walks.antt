@@ -1,6 +1,6 @@
 -- The walks along chains: a rule's type, a row's rule, and a record that cannot stand beside another, are found in a
 -- chain exactly if the table has them.
-use Rattle.std.proofs.Common.{◌≡◌, ℕ, ◌+◌, ◌*◌, ◌<◌, ◌≤◌, Bool, true, false, ◌&&◌, List, sym, ap, ◌∙◌, eq-eqb, ne_eqb, eqb-true}
+use Rattle.std.proofs.Common.{◌≡◌, ℕ, ◌<◌, ◌≤◌, Bool, true, false, ◌&&◌, List, sym, ap, ◌∙◌, eq-eqb, ne_eqb, eqb-true}
 use Rattle.std.specs.Prelude.{Option, Some, None}
 use mathlib.Core.Bool.{false≢true}
 use Rattle.tables.specs.Count.{all_below}

@@ -139,16 +139,3 @@ module _ (b : List ℕ) where
 pub record RulesChained (b : List ℕ) (s : Seen) : Type 0 where
   pub right : all_below (right_of b Kinds.Rules) rule_places ≡ true
   pub chained : ChainedOf b Kinds.Rules s rule_places
-
--- ---- types and rules, with the rules' chains where all are right; and rows
-
-unfoldable pub rules_sound : List ℕ → Bool
-rules_sound b = all_below (right_of b Kinds.Types) type_places && all_below (right_of b Kinds.Rules) rule_places
-
-unfoldable pub rows_sound : List ℕ → Bool
-unfolding rules_sound
-rows_sound b = rules_sound b && all_below (right_of b Kinds.Rows) row_places
-
-pub record RulesSound (b : List ℕ) (answer : Bool) (s : Seen) : Type 0 where
-  pub answered : answer ≡ rules_sound b
-  pub chained : answer ≡ true → ChainedOf b Kinds.Rules s rule_places

@@ -1,6 +1,6 @@
 -- The record whose place starts at an address. Assumes nothing.
 use Rattle.std.specs.Prelude.{ℕ, ◌+◌, ◌*◌, ◌<◌, Bool, ◌&&◌, List}
-use Rattle.tables.specs.Bytes.{byte_at, numbers, number, four}
+use Rattle.tables.specs.Bytes.{byte_at, numbers, number, three, four}
 use Rattle.meaning.specs.Forms.{holds, sequence_form}
 use Rattle.meaning.specs.Sound.{key_fits}
 use Rattle.places.specs.Layout.{type_widths, type_from, rule_widths, rule_from, row_widths, row_from, period_widths, period_from}
@@ -28,6 +28,10 @@ period_read b at = period_from (numbers period_widths b at 0)
 -- the eight bytes at an offset of a place as one number, lowest first
 abbrev pub eight_at : List ℕ → ℕ → ℕ → ℕ
 eight_at b at j = number four b at j + 4294967296 * number four b at (j + 4)
+
+-- the seven bytes after the one at an offset, likewise
+abbrev pub seven_after : List ℕ → ℕ → ℕ → ℕ
+seven_after b at j = number three b at (j + 1) + 16777216 * number four b at (j + 4)
 
 -- the range of a rule's key, which stands first in rules and in rows
 unfoldable pub key_holds : List ℕ → ℕ → Bool

@@ -13,17 +13,16 @@ mod place;
 mod walk;
 
 ghost use Rattle.std.specs.Prelude.{◌≡◌, ◌+◌, ◌<◌, ◌≤◌, ◌≢◌};
-ghost use Rattle.tables.specs.Count.{all_below};
 ghost use Rattle.tables.specs.Below.{any_below};
-ghost use Rattle.places.specs.Layout.{book_size, period_places};
+ghost use Rattle.places.specs.Layout.{book_size};
 ghost use Rattle.book.specs.Sound.{sound};
 ghost use Rattle.chains.specs.Sizes.{buckets, most_places, block_places};
 ghost use Rattle.chains.specs.Chains.{NoneSeen, Tallied, Entered, Ready, Passed, Going, Block, AllPassed};
 ghost use Rattle.soundness.specs.Kind.{Kind};
-ghost use Rattle.soundness.specs.Kinds.{table_of, address_of, alike_at, csd_of, bucket_of, same_of, right_of, ChainedOf, rows_sound, RulesSound};
+ghost use Rattle.soundness.specs.Kinds.{table_of, address_of, csd_at, alike_at, lone_at, csd_of, bucket_of, same_of, right_of, ChainedOf};
 
 use chains::{BLOCK, Seen};
-use free::free_first;
+use free::{Width, free_first};
 use judged::Judged;
 use place::{Book, Place};
 use places::{Period, RestrictionType, Row, Rule, SIZE};
@@ -38,13 +37,26 @@ fn counted(seen: &mut Seen, csd: u8, quota: u16) -> bool
     if csd > 8 {
         return false;
     }
-    let c = csd as usize;
+    let c = usize::from(csd);
     let n = seen.counts[c];
     if n >= quota {
         return false;
     }
     seen.counts[c] = n + 1;
     true
+}
+
+// The bucket of a record that is right by itself.
+fn lone<R: Judged>(book: Book<'_>, at: usize, owners: &R::Owners) -> Option<usize>
+    requires inside { at + (table_of R.kind).width ≤ book_size }
+    requires at_nonzero { csd_at book.bytes.now at ≢ 0 }
+    requires owned { R.owned book.bytes.now owners.now }
+    ensures { result ≡ lone_at book.entry.bytes.now R.kind at }
+{
+    if !R::fits(book, at, owners) {
+        return None;
+    }
+    Some(R::bucket(book, at))
 }
 
 // Whether a place before place i, whose bucket is k, has a record that cannot stand beside that of place i.
@@ -74,7 +86,7 @@ fn enter(seen: &mut Seen, k: usize, i: u16)
     requires i_bound { i + 1 ≤ most_places }
     ensures { Entered k i seen.old seen.new }
 {
-    seen.next[i as usize] = seen.head[k];
+    seen.next[usize::from(i)] = seen.head[k];
     seen.head[k] = i + 1;
 }
 
@@ -92,7 +104,7 @@ fn pass<R: Judged>(book: Book<'_>, i: u16, owners: &R::Owners, seen: &mut Seen) 
     if !counted(seen, csd, R::QUOTA) {
         return false;
     }
-    let Some(k) = R::lone(book, place.start, owners) else {
+    let Some(k) = lone::<R>(book, place.start, owners) else {
         return false;
     };
     if held::<R>(book, i, k, seen) {
@@ -126,7 +138,8 @@ fn pass_each<R: Judged>(
     true
 }
 
-// A block of places; those at its start that are free, at once.
+// A block of places; those at its start that are free, at once. Widening is by `as`: with `usize::from` what
+// `pass_each` asks was not proved.
 fn pass_block<R: Judged>(book: Book<'_>, from: u16, owners: &R::Owners, seen: &mut Seen) -> bool
     requires block { from + block_places ≤ (table_of R.kind).places }
     requires owned { R.owned book.bytes.now owners.now }
@@ -134,7 +147,10 @@ fn pass_block<R: Judged>(book: Book<'_>, from: u16, owners: &R::Owners, seen: &m
     ensures { Block (csd_of book.entry.bytes.now R.kind) (bucket_of book.entry.bytes.now R.kind) (table_of R.kind).places (right_of book.entry.bytes.now R.kind) from result seen.new }
 {
     let place = Place::<R>::of(from);
-    let free = free_first(book, place.start, R::WIDTH as usize);
+    let width = Width {
+        bytes: R::WIDTH as usize,
+    };
+    let free = free_first(book, place.start, width);
     pass_each::<R>(book, from, free, owners, seen)
 }
 
@@ -154,45 +170,25 @@ fn all<R: Judged>(book: Book<'_>, owners: &R::Owners, seen: &mut Seen) -> bool
 
 // ---- The whole book.
 
-// Types and rules; the rules' chains are left to the caller.
-fn sound_rules(book: Book<'_>, rules: &mut Seen) -> bool
-    requires { NoneSeen rules.old }
-    ensures { RulesSound book.entry.bytes.now result rules.new }
-{
-    let mut types = Seen::none();
-    if !all::<RestrictionType>(book, &(), &mut types) {
-        return false;
-    }
-    all::<Rule>(book, &types, rules)
-}
-
-// Types, rules and rows.
-fn sound_rows(book: Book<'_>) -> bool
-    ensures { result ≡ rows_sound book.entry.bytes.now }
-{
-    let mut rules = Seen::none();
-    if !sound_rules(book, &mut rules) {
-        return false;
-    }
-    all::<Row>(book, &rules, &mut Seen::none())
-}
-
-fn sound_periods(book: Book<'_>) -> bool
-    ensures { result ≡ all_below (right_of book.entry.bytes.now Kind.Periods) period_places }
-{
-    all::<Period>(book, &(), &mut Seen::none())
-}
-
 // Whether a lent book is sound.
 pub fn is_sound(b: &[u8]) -> bool
     ensures { result ≡ sound b.now }
 {
-    if b.len() != SIZE {
+    let size = b.len();
+    if size != SIZE {
         return false;
     }
     let book = Book { bytes: b };
-    if !sound_rows(book) {
+    let mut types = Seen::none();
+    if !all::<RestrictionType>(book, &(), &mut types) {
         return false;
     }
-    sound_periods(book)
+    let mut rules = Seen::none();
+    if !all::<Rule>(book, &types, &mut rules) {
+        return false;
+    }
+    if !all::<Row>(book, &rules, &mut Seen::none()) {
+        return false;
+    }
+    all::<Period>(book, &(), &mut Seen::none())
 }

@@ -9,7 +9,7 @@ ghost use Rattle.soundness.specs.Reads.{type_read, rule_read, row_read};
 ghost use Rattle.soundness.specs.Alike.{typed_by, ruled_by};
 ghost use Rattle.soundness.specs.Kinds.{csd_at, typed_in, ruled_in, ChainedOf};
 
-use crate::buckets::{rule_bucket_of, type_bucket_of};
+use crate::buckets::key_bucket;
 use crate::fits::filled;
 use crate::place::{Book, Place};
 use crate::walk::any;
@@ -23,7 +23,8 @@ fn typed_by(book: Book<'_>, place: Place<Rule>, other: Place<RestrictionType>) -
     book.three(other.start, 0) == book.three(place.start, 0)
 }
 
-// Whether the rule at another place is that of the row, which fills these criteria.
+// Whether the rule at another place is that of the row, which fills these criteria. No twin of the test above: it asks
+// for more than the key.
 fn ruled_by(book: Book<'_>, place: Place<Row>, other: Place<Rule>, criteria: u32) -> bool
     requires { criteria ≡ filled (row_read book.bytes.now place.start).values }
     ensures { result ≡ ruled_by (row_read book.entry.bytes.now place.start) (rule_read book.entry.bytes.now other.start) }
@@ -42,7 +43,7 @@ pub(crate) fn typed(book: Book<'_>, place: Place<Rule>, types: &Seen) -> bool
 {
     any(
         types,
-        type_bucket_of(book, place),
+        key_bucket(book.three(place.start, 0)),
         |j: u16| -> bool
             requires { j < type_places }
             ensures { result ≡ typed_in book.entry.bytes.now place.start j }
@@ -61,7 +62,7 @@ pub(crate) fn ruled(book: Book<'_>, place: Place<Row>, rules: &Seen) -> bool
     };
     any(
         rules,
-        rule_bucket_of(book, place),
+        key_bucket(book.four(place.start, 0)),
         |j: u16| -> bool
             requires places { j < rule_places }
             requires criteria { criteria ≡ filled (row_read book.bytes.now place.start).values }

@@ -18,6 +18,7 @@ use Rattle.tables.proofs.Swept.{of_owner, list_apart, list_sifted, list_other}
 use Rattle.meaning.specs.Records as M
 use Rattle.meaning.specs.Forms.{holds, day as day_form}
 use Rattle.meaning.specs.Keys.{is_kept}
+use Rattle.meaning.specs.Judging.{rejected}
 use Rattle.meaning.specs.Sound.{kept_fits, sound_lone}
 use Rattle.meaning.specs.Pending.{are_types, started}
 use Rattle.meaning.proofs.Good.{good_of_sound}
@@ -105,7 +106,7 @@ module _ (csd day : ℕ) (b : List ℕ) where
       abbrev left : Kept
       left = kept_by i day v (exempted_within (reached k) (asking_at i day) (scope_at i))
 
-      found_is : found ≡ cond v.rejected None (Some left)
+      found_is : found ≡ cond (rejected v) None (Some left)
       unfolding started_by met_by
       found_is = refl
 
@@ -127,7 +128,7 @@ module _ (csd day : ℕ) (b : List ℕ) where
           started_right (reached k) i day (ap sound_lone same ∙ r.lone) remembers
           ∙ ap (λ m. started m day (instruction_of i)) same
 
-      left_fits : v.rejected ≡ false → kept_fits (instruction_of left) ≡ true
+      left_fits : rejected v ≡ false → kept_fits (instruction_of left) ≡ true
       left_fits e =
           fit_after (lone_book csd b) day (instruction_of i) (instruction_of left) r.lone r.real fits
           (sym found_right ∙ ap left_of found_is ∙ rw e)
@@ -153,7 +154,7 @@ module _ (csd day : ℕ) (b : List ℕ) where
       unfolding start_step kept_by
       made_fits =
           rw found_is
-          (cases v.rejected
+          (cases (rejected v)
           (λ e. rw e (vacant_fits kept kept_lies))
           (λ e.
           rw e
@@ -167,11 +168,11 @@ module _ (csd day : ℕ) (b : List ℕ) where
       unfolding start_step kept_by started
       made_says =
           rw found_is
-          (cases v.rejected
+          (cases (rejected v)
           (λ e. rw (e, ne_eqb 0 csd (λ z. omega (arith, z, r.low))) (ap_left e))
           (λ e. rw (e, eq-eqb left.csd csd left_csd) (ap_left e)))
         where
-          ap_left : {t : Bool} → v.rejected ≡ t
+          ap_left : {t : Bool} → rejected v ≡ t
               → left_of (cond t None (Some left)) ≡ started (lone_book csd b) day (instruction_of i)
           ap_left e = ap (λ t. left_of (cond t None (Some left))) (sym e) ∙ sym (ap left_of found_is) ∙ found_right
 
@@ -180,7 +181,7 @@ module _ (csd day : ℕ) (b : List ℕ) where
       unfolding start_step kept_by
       made_own a low d =
           rw found_is
-          (cases v.rejected
+          (cases (rejected v)
           (λ e. rw e (λ z. omega arith))
           (λ e. rw e (λ z. d (sym left_csd ∙ z))))
 

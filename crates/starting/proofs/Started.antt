@@ -1,44 +1,48 @@
 -- What the functions store, and what W leaves of the kept instructions of each depository.
-use Prim.Native.Nat.{ℕ, ◌+◌}
-use mathlib.Core.Path.{◌≡◌, refl, sym, ◌∙◌}
+use Prim.Native.Nat.{ℕ}
+use mathlib.Core.Path.{◌≡◌, refl, ap, ◌∙◌}
 use mathlib.Core.Bool.{true}
 use mathlib.Core.List.{List}
-use Rattle.std.specs.Prelude.{Option, unwrap_or}
-use native.Mathlib.Numerals.{add-one}
 use lib.ListN.{length}
-use borrow.Author.Tests.{eq-eqb, ne_eqb, eqb-true}
+use lib.Dec.{eqb}
+use borrow.Author.Tests.{eqb-true}
 use Rattle.tables.specs.Count.{every}
 use Rattle.tables.specs.Table.{Lies}
 use Rattle.tables.specs.Sweep.{sweep_at, sweep_to}
-use Rattle.tables.proofs.Counts.{ands}
+use Rattle.tables.proofs.Counts.{ands, cases}
 use Rattle.tables.proofs.Swept.{swept_size}
-use Rattle.places.specs.Layout.{instruction_numbers, instruction_at, put_instruction, zero_instruction}
+use Rattle.places.specs.Layout.{instruction_places, instruction_numbers, instruction_at, put_instruction}
 use Rattle.places.specs.declared.Kept.{Kept}
 use Rattle.records.specs.Free.{all_zero}
-use Rattle.pending.specs.OnBytes.{started_by}
 use Rattle.records.specs.Tables.{kept}
-use Rattle.starting.specs.Days.{start_step, start_place}
+use Rattle.records.specs.Asks.{instruction_meets}
+use Rattle.records.specs.declared.InstructionAsk.TheVariants as Instructions
+use Rattle.edits.specs.Edit.{ChangedAt, ChangedEach}
+use Rattle.edits.proofs.Does.{each_by}
+use Rattle.starting.specs.Days.{start_step, start_day}
 
--- ---- what the functions store
+-- ---- what the pass stores
 
-module _ (b : List ℕ) (csd day i n : ℕ) (e : n ≡ (instruction_at b i).csd) where
-  pub stored_here : (b' : List ℕ) (k x z : Kept) (r : Option Kept) → b' ≡ put_instruction b i x → x ≡ unwrap_or r z
-      → z ≡ zero_instruction → r ≡ started_by b k day → k ≡ instruction_at b i → n ≡ csd → b' ≡ start_place csd day b i
-  unfolding start_place sweep_at start_step
-  stored_here b' k x z r f g y h j o = f ∙ rw (eq-eqb (instruction_at b i).csd csd (sym e ∙ o), g, y, h, j)
+module _ (csd day : ℕ) (made : List ℕ → Kept → Kept → Type 0) (does : (b : List ℕ) (x r : Kept) → made b x r → r ≡ start_step day b x) where
+  started_at : (b b' : List ℕ) (i : ℕ) → ChangedAt kept instruction_at put_instruction csd (instruction_meets Instructions.Any) made b i b'
+      → b' ≡ sweep_at kept csd (start_step day) b i
+  unfolding sweep_at instruction_meets
+  started_at b b' i h =
+      cases (eqb (instruction_at b i).csd csd)
+      (λ t. rw t (by_call (h.there (rw t))))
+      (λ t. rw t (h.elsewhere (rw t)))
+    where
+      by_call : (r : Kept) × (made b (instruction_at b i) r × (b' ≡ put_instruction b i r))
+          → b' ≡ put_instruction b i (start_step day b (instruction_at b i))
+      by_call (r, (e, g)) = g ∙ ap (put_instruction b i) (does b (instruction_at b i) r e)
 
-  pub passed_by : (n ≡ csd → ⊥) → b ≡ start_place csd day b i
-  unfolding start_place sweep_at
-  passed_by o = rw (ne_eqb (instruction_at b i).csd csd (λ z. o (e ∙ z)))
-
-pub day_none : (b : List ℕ) (csd day : ℕ) → b ≡ sweep_to kept csd (start_step day) b 0
-unfolding sweep_to
-day_none b csd day = refl
-
-pub day_more : (b b' b'' : List ℕ) (csd day i : ℕ) → b'' ≡ start_place csd day b' i
-    → b' ≡ sweep_to kept csd (start_step day) b i → b'' ≡ sweep_to kept csd (start_step day) b (i + 1)
-unfolding start_place sweep_to
-day_more b b' b'' csd day i e f = e ∙ rw (f, add-one)
+  pub day_started : (b b' : List ℕ) → ChangedEach kept instruction_at put_instruction csd (instruction_meets Instructions.Any) made b instruction_places b'
+      → b' ≡ start_day csd day b
+  unfolding start_day sweep_to
+  day_started b b' =
+      each_by kept instruction_at put_instruction csd (instruction_meets Instructions.Any) made b (sweep_to kept csd (start_step day) b) refl
+      (λ n b'' h. started_at (sweep_to kept csd (start_step day) b n) b'' n h)
+      instruction_places b'
 
 -- ---- the table's own facts
 

@@ -4,7 +4,7 @@ use Rattle.std.specs.Prelude.{ℕ, ◌≤◌, ◌<◌, ◌≡◌, true, List, le
 use Rattle.tables.specs.Count.{every, sift}
 use Rattle.tables.specs.Bytes.{byte_at}
 use Rattle.tables.specs.Table.{end, list_of}
-use Rattle.tables.specs.Sweep.{sweep_at, sweep_to}
+use Rattle.tables.specs.Sweep.{sweep_to}
 use Rattle.meaning.specs.Records as M
 use Rattle.meaning.specs.Forms.{holds, day as day_form}
 use Rattle.meaning.specs.Sound.{kept_fits, sound_lone}
@@ -26,10 +26,6 @@ place_after r = unwrap_or r zero_instruction
 -- what W stores at the place of an instruction
 unfoldable pub start_step : ℕ → List ℕ → Kept → Kept
 start_step day b k = place_after (started_by b k day)
-
--- place i, if it is the depository's
-unfoldable pub start_place : ℕ → ℕ → List ℕ → ℕ → List ℕ
-start_place csd day b i = sweep_at kept csd (start_step day) b i
 
 -- every place
 unfoldable pub start_day : ℕ → ℕ → List ℕ → List ℕ

@@ -3,27 +3,18 @@
 #![tactic(auto)]
 
 ghost use Rattle.std.specs.Prelude.{◌≡◌};
-ghost use Rattle.starting.specs.Days.{start_place, start_day};
+ghost use Rattle.starting.specs.Days.{start_day};
 
+use edits::change_each;
 use pending::start;
-use places::{Kept, Place, csd_at, record_at};
-use stores::put;
+use places::Kept;
+use records::InstructionAsk;
 
-// The instruction at a place, if it is the depository's; nothing stands there afterwards where it is rejected.
-fn start_place(b: &mut [u8], i: u16, csd: u8, day: u32)
-    ensures { b.new ≡ start_place csd day b.old i }
-{
-    if csd_at::<Kept>(b, i) == csd {
-        let left = start(b, record_at::<Kept>(b, i), day);
-        put(b, i, left.unwrap_or(Kept::default()));
-    }
-}
-
-// W: each of the depository's kept instructions.
+// W: each of the depository's kept instructions; nothing stands at its place afterwards where it is rejected.
 pub fn start_day(b: &mut [u8], csd: u8, day: u32)
     ensures { b.new ≡ start_day csd day b.old }
 {
-    for i in 0..Kept::PLACES {
-        start_place(b, i, csd, day);
-    }
+    change_each::<Kept, _>(b, csd, InstructionAsk::Any, |book, k| {
+        start(book, k, day).unwrap_or(Kept::default())
+    });
 }

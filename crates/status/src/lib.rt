@@ -17,7 +17,7 @@ fn is_wished(w: Wishes) -> bool
 pub fn status(v: Verdict, w: Wishes) -> bool
     ensures { result ≡ status v w }
 {
-    !v.rejected && (v.party.number != 0 || is_wished(w))
+    v.rejection.is_none() && (v.party.is_some() || is_wished(w))
 }
 
 // The answer to a question that was judged so: with the status where the line carries the two fields.

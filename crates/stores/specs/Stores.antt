@@ -14,26 +14,31 @@ use Rattle.places.specs.declared.Kept.{Kept}
 use Rattle.places.specs.Layout.{instruction_base, instruction_width, instruction_widths, instruction_numbers, put_instruction}
 
 pub type_stores : (b : List ℕ) (i : ℕ) (r : RestrictionType)
-    → put_type b i r ≡ puts b (type_base + i * type_width) 0 (bytes_of type_widths (type_numbers r))
+    → put_type b i r
+    ≡ puts b (type_base + i * type_width) 0 (bytes_of type_widths (type_numbers r))
 unfolding put_type
 type_stores b i r = refl
 
 pub rule_stores : (b : List ℕ) (i : ℕ) (r : Rule)
-    → put_rule b i r ≡ puts b (rule_base + i * rule_width) 0 (bytes_of rule_widths (rule_numbers r))
+    → put_rule b i r
+    ≡ puts b (rule_base + i * rule_width) 0 (bytes_of rule_widths (rule_numbers r))
 unfolding put_rule
 rule_stores b i r = refl
 
 pub row_stores : (b : List ℕ) (i : ℕ) (r : Row)
-    → put_row b i r ≡ puts b (row_base + i * row_width) 0 (bytes_of row_widths (row_numbers r))
+    → put_row b i r
+    ≡ puts b (row_base + i * row_width) 0 (bytes_of row_widths (row_numbers r))
 unfolding put_row
 row_stores b i r = refl
 
 pub period_stores : (b : List ℕ) (i : ℕ) (r : Period)
-    → put_period b i r ≡ puts b (period_base + i * period_width) 0 (bytes_of period_widths (period_numbers r))
+    → put_period b i r
+    ≡ puts b (period_base + i * period_width) 0 (bytes_of period_widths (period_numbers r))
 unfolding put_period
 period_stores b i r = refl
 
 pub instruction_stores : (b : List ℕ) (i : ℕ) (r : Kept)
-    → put_instruction b i r ≡ puts b (instruction_base + i * instruction_width) 0 (bytes_of instruction_widths (instruction_numbers r))
+    → put_instruction b i r
+    ≡ puts b (instruction_base + i * instruction_width) 0 (bytes_of instruction_widths (instruction_numbers r))
 unfolding put_instruction
 instruction_stores b i r = refl

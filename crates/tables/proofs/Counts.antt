@@ -180,11 +180,6 @@ module _ {R : Type 0} where
       let e : q x ≡ false = bit_none (q x) (omega arith) in
       rw e (omega (arith, count_absent p q l (omega arith)))
 
-  pub count_either : (p q : R → Bool) (l : List R) → count (λ x. p x || q x) l ≤ count p l + count q l
-  unfolding count
-  count_either p q [] = omega arith
-  count_either p q (x ∷ l) = omega (arith, count_either p q l, bit_or (p x) (q x))
-
   pub count_alter : (p : R → Bool) (g : R → R) (l : List R) → count p (alter g l) ≡ count (λ x. p (g x)) l
   unfolding count alter
   count_alter p g [] = refl

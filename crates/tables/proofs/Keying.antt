@@ -1,6 +1,6 @@
 -- Laws of a table addressed by key, for any table of records, key, test and step: before the first place, one place
 -- more, and what its entries say of all the places.
-use Prim.Native.Nat.{ℕ, zero, suc, ◌+◌, ◌*◌, ◌/◌, ◌%◌, ◌≤◌, ◌<◌}
+use Prim.Native.Nat.{ℕ, zero, suc, ◌+◌, ◌*◌, ◌/◌, ◌%◌, ◌<◌}
 use mathlib.Core.Path.{◌≡◌, refl, ap, ap₂, sym, ◌∙◌, fun_ext}
 use mathlib.Core.Bool.{Bool, true, false, ◌&&◌, cond, and-false}
 use mathlib.Core.List.{List}
@@ -8,7 +8,7 @@ use native.Mathlib.Nat.{mul-add-mod_self_right, mul-add-div_right, mod-eq_of_lt,
 use native.Mathlib.Numerals.{add-one}
 use native.Mathlib.Omega.{arith}
 use lib.Dec.{eqb, ltb}
-use lib.ListN.{length, get_or, set, length-set, get_or-eq_default}
+use lib.ListN.{get_or, set, length-set, get_or-eq_default}
 use lib.Seq.{set_out, get_or-set_same, get_or-set_other}
 use borrow.Author.Tests.{eq-eqb, ne_eqb, ltb-true, ltb-false}
 use Rattle.tables.specs.Count.{bit, lesser}
@@ -17,23 +17,8 @@ use Rattle.tables.specs.Keyed.{marked, hits, entry, keys, leasts, after_place, K
 use Rattle.tables.proofs.Counts.{cases, cases_eq}
 use Rattle.tables.proofs.Below.{any_never}
 
--- What a store leaves to show: a number at the key where the test holds, nothing past the end.
-pub store_in : (t : List ℕ) (k v : ℕ) (on : Bool) → on ≡ true → set t k v ≡ cond on (set t k v) t
-store_in t k v on e = rw e
-
-pub store_past : (t : List ℕ) (k v : ℕ) (on : Bool) → length t ≤ k → t ≡ cond on (set t k v) t
-store_past t k v true l = sym (set_out t k v l)
-store_past t k v false l = refl
-
--- What one place leaves to show: c is read first. If it is a, x is read; k is its key, v whether it is on, and w what
--- is stored if so.
+-- A place of another depository leaves nothing: c is read first.
 module _ {P : Type 0} (csd : P → ℕ) (a : ℕ) (key : P → ℕ) (on : P → Bool) (step : P → ℕ → ℕ) where
-  pub place_own : (y x : P) (t t' : List ℕ) (c k w : ℕ) (v : Bool) → t' ≡ cond v (set t k w) t → v ≡ on x
-      → w ≡ step x (get_or t k 0) → k ≡ key x → x ≡ y → c ≡ csd y → c ≡ a → t' ≡ after_place csd a key on step y t
-  unfolding after_place
-  place_own y x t t' c k w v et ev ew ek ex ec eo =
-      rw (eq-eqb (csd y) a (sym ec ∙ eo)) (et ∙ rw (ev, ew, ek, ex))
-
   pub place_other : (y : P) (t : List ℕ) (c : ℕ) → c ≡ csd y → (c ≡ a → ⊥) → t ≡ after_place csd a key on step y t
   unfolding after_place
   place_other y t c ec d = rw (ne_eqb (csd y) a (λ z. d (ec ∙ z)))

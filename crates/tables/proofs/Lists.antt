@@ -277,9 +277,6 @@ module _ {R : Type 0} where
   length_sift g [] = omega arith
   length_sift g (x ∷ l) = omega (arith, length_one (g x) (sift g l), length_sift g l)
 
-  pub same_sift : (g : R → Option R) (l m : List R) → Same l m → Same (sift g l) (sift g m)
-  same_sift g l m s p = count_sift p g l ∙ s (λ x. left_by p (g x)) ∙ sym (count_sift p g m)
-
   pub same_every : (p : R → Bool) (l m : List R) → Same l m → every p l ≡ every p m
   same_every p l m s = rw (every_count p l, every_count p m, s (λ x. not (p x)))
 

@@ -1,9 +1,9 @@
 -- Numbers with zeros after them read as the numbers do.
 use Prim.Native.Nat.{ℕ, zero, suc, ◌<◌}
-use mathlib.Core.Path.{◌≡◌, refl, ap}
+use mathlib.Core.Path.{◌≡◌, refl}
 use mathlib.Core.List.{List, [], ◌∷◌}
 use native.Mathlib.Omega.{arith}
-use lib.ListN.{length, get_or}
+use lib.ListN.{get_or}
 use Rattle.tables.specs.Padded.{padded}
 
 pub padded_at : (n : ℕ) (ns : List ℕ) (i : ℕ) → i < n → get_or (padded n ns) i 0 ≡ get_or ns i 0
@@ -13,9 +13,3 @@ padded_at (suc n) [] zero h = refl
 padded_at (suc n) [] (suc i) h = padded_at n [] i (omega arith)
 padded_at (suc n) (x ∷ ns) zero h = refl
 padded_at (suc n) (x ∷ ns) (suc i) h = padded_at n ns i (omega arith)
-
-pub length_padded : (n : ℕ) (ns : List ℕ) → length (padded n ns) ≡ n
-unfolding padded
-length_padded zero ns = refl
-length_padded (suc n) [] = ap suc (length_padded n [])
-length_padded (suc n) (x ∷ ns) = ap suc (length_padded n ns)

@@ -1,12 +1,5 @@
 -- The first line of a text, and the lines after it.
-use Prim.Native.Nat.{ℕ, suc, ◌+◌, ◌-◌, ◌≤◌, ◌<◌}
-use mathlib.Core.Path.{◌≡◌}
-use mathlib.Core.List.{List, [], ◌∷◌}
-use native.Mathlib.Omega.{arith}
-use lib.Dec.{eqb}
-use lib.ListN.{length, take, drop, length-drop, drop_of_length-le}
-use lib.Seq.{drop-drop}
-use borrow.Author.Tests.{lt-ltb, le-ltb}
+use Rattle.std.proofs.Common.{ℕ, suc, ◌+◌, ◌-◌, ◌≤◌, ◌<◌, ◌≡◌, List, [], ◌∷◌, arith, eqb, length, take, drop, length-drop, drop_of_length-le, drop-drop, lt-ltb, le-ltb}
 use Rattle.tables.proofs.Counts.{cases}
 use Rattle.meaning.specs.Text.{place}
 use Rattle.meaning.specs.Desk.{lines_of}

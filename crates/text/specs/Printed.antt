@@ -1,9 +1,14 @@
 -- A printed answer as bytes. Assumes nothing.
-use Rattle.std.specs.Prelude.{ℕ, ◌≤◌, ◌≡◌, List, length}
-use Rattle.meaning.specs.Printing.{printed}
+use Rattle.std.specs.Prelude.{ℕ, ◌≤◌, ◌≡◌, List, [], ◌∷◌, length, Option}
+use Rattle.meaning.specs.Printing.{listed, deciding_numbers, printed}
+use Rattle.meaning.specs.declared.Deciding.{Deciding}
 use Rattle.meaning.specs.declared.Verdict.{Verdict}
 use Rattle.meaning.specs.declared.Answer.{Answer}
 use Rattle.meaning.specs.declared.Answer.TheVariants.{Judged}
+
+-- type and sequence of what decides, each behind a comma
+unfoldable pub deciding_text : Option Deciding → List ℕ
+deciding_text d = listed ((deciding_numbers d).0 ∷ (deciding_numbers d).1 ∷ [])
 
 -- r is the printed form of an answer, which has at most so many bytes
 pub record PrintsIn (most : ℕ) (a : Answer) (r : List ℕ) : Type 0 where

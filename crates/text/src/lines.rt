@@ -3,8 +3,8 @@ ghost use Rattle.text.specs.Parts.{Splits};
 
 use fields::find;
 
-// The line that begins at an index: where it ends, and where the next one begins. Indices, and no iterator over lines:
-// who answers lines says by an index how far it came in the text.
+// The line that begins at an index: where it ends, and where the next one begins. Indices, since `lines` says by one
+// how far it came in the text; `batches` makes its iterator over lines of them.
 #[derive(Clone, Copy)]
 pub struct Span {
     pub end: usize,

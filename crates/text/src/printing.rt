@@ -1,13 +1,17 @@
-// Prints an answer as document 01's 'The desk program' says, and the status of document 02, request b.
-ghost use Rattle.std.specs.Prelude.{◌≡◌, [], ◌∷◌, cond};
-ghost use Rattle.meaning.specs.Printing.{verdict_text};
+// Prints an answer as document 01's 'The desk program' says, and the status of document 02, request b. Not by
+// `Display`: `write!` says what it wrote only where it gives Ok, and nothing says that it does, so `print`, which never
+// fails, could not promise its bytes; a String, which can, needs a heap.
+ghost use Rattle.std.specs.Prelude.{◌≡◌, ◌≤◌, [], ◌∷◌, length};
+ghost use Rattle.meaning.specs.Printing.{verdict_text, deciding_numbers};
 ghost use Rattle.meaning.specs.declared.Answer.TheVariants.{WithStatus};
-ghost use Rattle.text.specs.Printed.{Prints, PrintsVerdict};
+ghost use Rattle.writing.specs.Written.{added_all};
+ghost use Rattle.text.specs.Printed.{deciding_text, Prints, PrintsVerdict};
 
-use meaning::{Answer, Verdict};
+use meaning::{Answer, Deciding, Verdict};
 use writing::Written;
 
 // A text of one letter.
+#[tactic(auto, unfolding(writing::specs::Written::added))]
 fn letter(c: u8) -> Written
     ensures { result ≡ c ∷ [] }
 {
@@ -16,25 +20,39 @@ fn letter(c: u8) -> Written
     p
 }
 
-fn verdict_letter(rejected: bool) -> u8
-    ensures { result ≡ cond rejected 82 65 }
+// A letter more, behind a comma.
+#[tactic(auto, unfolding(writing::specs::Written::added_all))]
+fn push_letter(p: &mut Written, c: u8)
+    ensures { p.new ≡ added_all p.old (44 ∷ c ∷ []) }
 {
-    if rejected { b'R' } else { b'A' }
+    p.push(b',');
+    p.push(c);
 }
 
-fn status_letter(status: bool) -> u8
-    ensures { result ≡ cond status 89 78 }
+// Type and sequence of what decides, 0 and 0 where nothing does.
+fn numbers(d: Option<Deciding>) -> (u8, u8)
+    ensures { result ≡ deciding_numbers d }
 {
-    if status { b'Y' } else { b'N' }
+    d.map_or((0, 0), |d| (d.number, d.sequence))
+}
+
+// Those more, each behind a comma.
+#[tactic(auto, unfolding(crate::specs::Printed::deciding_text))]
+fn push_deciding(p: &mut Written, d: Option<Deciding>)
+    ensures text { p.new ≡ added_all p.old (deciding_text d) }
+    ensures few { length (deciding_text d) ≤ 8 }
+{
+    let (number, sequence) = numbers(d);
+    p.push_numbers(&[u32::from(number), u32::from(sequence)]);
 }
 
 // V and the verdict, A accepted or R rejected.
+#[tactic(auto, unfolding(writing::specs::Written::added, writing::specs::Written::added_all))]
 fn verdict_text(rejected: bool) -> Written
     ensures { result ≡ verdict_text rejected }
 {
     let mut p = letter(b'V');
-    p.push(b',');
-    p.push(verdict_letter(rejected));
+    push_letter(&mut p, if rejected { b'R' } else { b'A' });
     p
 }
 
@@ -42,15 +60,10 @@ fn verdict_text(rejected: bool) -> Written
 fn print_verdict(v: Verdict) -> Written
     ensures { PrintsVerdict v result }
 {
-    let mut p = verdict_text(v.rejected);
-    p.push_numbers(&[
-        u32::from(v.rejection.number),
-        u32::from(v.rejection.sequence),
-        u32::from(v.validation.number),
-        u32::from(v.validation.sequence),
-        u32::from(v.party.number),
-        u32::from(v.party.sequence),
-    ]);
+    let mut p = verdict_text(v.rejection.is_some());
+    push_deciding(&mut p, v.rejection);
+    push_deciding(&mut p, v.validation);
+    push_deciding(&mut p, v.party);
     p
 }
 
@@ -59,12 +72,12 @@ fn print_status(v: Verdict, status: bool) -> Written
     ensures { Prints (WithStatus v status) result }
 {
     let mut p = print_verdict(v);
-    p.push(b',');
-    p.push(status_letter(status));
+    push_letter(&mut p, if status { b'Y' } else { b'N' });
     p
 }
 
-// K for an edit; F and the refusal; V and the verdict; or V, the verdict and the status.
+// K for an edit; F and the refusal; V and the verdict; or V, the verdict and the status. A match, since the kinds of
+// answers are an enum.
 pub fn print(answer: Answer) -> Written
     ensures { Prints answer result }
 {

@@ -55,7 +55,8 @@ impl Written {
         }
     }
 
-    // The bytes of a text more.
+    // The bytes of a text more, one by one: arrayvec's `try_extend_from_slice` would write none of a text that does not
+    // fit whole.
     pub(crate) fn push_text(&mut self, text: &[u8])
         ensures { self.new ≡ added_all self.old text.now }
     {
@@ -64,7 +65,8 @@ impl Written {
         }
     }
 
-    // The digits of a number more, without leading zeros: those of its tenth, and the last one.
+    // The digits of a number more, without leading zeros: those of its tenth, and the last one. Not by `write!`, which
+    // says what it wrote only where it gives Ok: where the space is full, the bytes that still fit are promised here.
     pub fn push_number(&mut self, n: u32)
         ensures { self.new ≡ added_all self.old (numeral n) }
     {

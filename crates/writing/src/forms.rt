@@ -33,12 +33,10 @@ impl Written {
             | Form::PartyType
             | Form::Day
             | Form::Code => self.push_number(n),
-            Form::Sign => self.push_word(n, &[b"P", b"N"]),
-            Form::Kind => self.push_word(n, &[b"P", b"A", b"S"]),
-            Form::Movement => self.push_word(n, &[b"DELI", b"RECE"]),
-            Form::Payment => self.push_word(n, &[b"APMT", b"FREE"]),
+            Form::Sign | Form::Kind | Form::Movement | Form::Payment | Form::Wish => {
+                self.push_word(n, form.words())
+            }
             Form::Transaction => self.push_text(&n.to_be_bytes()),
-            Form::Wish => self.push_word(n, &[b"Y", b"N"]),
             Form::Currency => self.push_text(&n.to_be_bytes()[1..]),
         }
     }

@@ -8,7 +8,8 @@ use crate::bytes::Written;
 use shapes::Shape;
 
 // The line that the meaning writes of a row and any numbers: as many fields as the row and the numbers both have. Bytes
-// past the space are left out.
+// past the space are left out. Not by `write!`, which takes text: the meaning writes bytes, of numbers that need not be
+// letters, and the contract follows it field by field.
 pub fn write_line(shape: Shape, numbers: &[u32]) -> Written
     ensures { result ≡ written_as (written (row_of shape) numbers.now) }
 {

@@ -1,5 +1,5 @@
 -- `answering::try_answer` meets its contract. Assumes nothing.
-use mathlib.Core.Path.{refl}
+use Rattle.std.proofs.Common.{refl}
 use Rattle.std.proofs.lemmas.Result.{err_from_is_err_and}
 use Rattle.answering.proofs.Submits.{answers_unsound, answers_unread, answers_wrong, answers_elsewhere, answers_read}
 use Rattle.answering.proofs.try_answer.Goals as goal

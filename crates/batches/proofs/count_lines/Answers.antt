@@ -1,19 +1,17 @@
 -- `batches::count_lines` meets its contract. Assumes nothing.
-use Rattle.batches.proofs.Counting.{none_counted, one_counted, all_counted, enough_counted}
-use native.Mathlib.Omega.{arith}
+use mathlib.Core.Path.{◌≡◌, ap, ◌∙◌}
+use lib.ListN.{length-take}
+use Rattle.std.proofs.lemmas.Iterator.{YieldsList-from_take}
+use Rattle.std.proofs.lemmas.Iterator.Consumers.{count_from_yields_List, YieldsList-from_first}
+use Rattle.meaning.specs.Desk.{lines_of}
+use Rattle.batches.specs.Left.{lines_left}
 use Rattle.batches.proofs.count_lines.Goals as goal
 
-pub loop-n-init : goal.loop-n-init
-loop-n-init c = search none_counted
-
-pub returns-then-from-text : goal.returns-then-from-text
-returns-then-from-text c = search all_counted
-
-pub loop-n-smaller : goal.loop-n-smaller
-loop-n-smaller c = omega arith
-
-pub loop-n-preserved : goal.loop-n-preserved
-loop-n-preserved c = search one_counted
-
 pub returns : goal.returns
-returns c = search enough_counted
+returns c =
+    let all = lines_of c.args.text.now in
+    let first : lines_left c.new.result ≡ all = rw (c.new.ensures.0, c.new.ensures.1) in
+    let left : lines_left c.take.result.iter ≡ all = ap lines_left c.take.ensures.source ∙ first in
+    count_from_yields_List _ c.count.result c.count.ensures.ran
+    (YieldsList-from_take 65 (YieldsList-from_first (λ x. x.now) lines_left all left) c.take.ensures.count)
+    ∙ length-take 65 all

@@ -18,14 +18,6 @@ loop-k-init g c =
     let z : c.into_iter-k-iterator.result.i ≡ 0 = ap (λ (x : PlacesOf g.row.P.Denot). x.i) e ∙ f.2 in
     (tt, tt, ap (λ (x : PlacesOf g.row.P.Denot). x.b.now) e ∙ f.0, ap (λ (x : PlacesOf g.row.P.Denot). x.a) e ∙ f.1, omega arith, omega arith, sym (ap (count_below (hit g.P.Record.table c.args.b.now c.args.a (g.P.Record.asked c.args.q))) z ∙ count_none _))
 
-pub overflow_add-n : goal.overflow_add-n
-overflow_add-n g c =
-    let s = g.met.P.Record.stands in
-    let v = c.loop-k.invariant in
-    let e = rw c.in-Some.is at c.next.ensures.steps in
-    let m = counted_turn g.P.Record.table _ _ s.2 s.3 c.args.b.now c.args.a (g.P.Record.asked c.args.q) _ _ _ _ _ s.0 v.2 v.3 v.4 v.6 _ _ _ e.0 c.from-n.ensures c.is_hit.ensures in
-    omega (arith, m.0, m.1, g.met.P.Record.few)
-
 pub loop-k-preserved : goal.loop-k-preserved
 loop-k-preserved g c =
     let s = g.met.P.Record.stands in

@@ -1,32 +1,16 @@
 -- `book::find` meets its contract. Assumes nothing.
-use mathlib.Core.Path.{refl, sym, ap, ◌∙◌}
-use native.Mathlib.Omega.{arith}
-use Rattle.tables.specs.Count.{find_below}
+use Rattle.std.proofs.Common.{rules}
+use Rattle.std.proofs.lemmas.Iterator.Search.{find_from_yields_List}
+use Rattle.std.specs.Iterator.Adapters.{rev_steps}
 use Rattle.tables.specs.Table.{hit}
-use Rattle.owners.proofs.Finding.{place_found, place_lost}
-use Rattle.book.proofs.Looking.{found_here, found_less, found_none}
+use Rattle.book.proofs.Looking.{back, down_gives, found_last}
 use Rattle.book.proofs.find.Goals as goal
-
-pub loop-i-init : goal.loop-i-init
-loop-i-init g c =
-    let s = g.met.P.Record.stands in
-    let t = g.P.Record.table in
-    (omega (arith, s.0), ap (find_below t.places (hit t c.args.b.now c.args.a (g.P.Record.asked c.args.q))) (s.0 ∙ sym c.PLACES-i.ensures))
-
-pub returns-then-is_hit : goal.returns-then-is_hit
-returns-then-is_hit g c =
-    let t = g.P.Record.table in
-    place_found _ _ _ _ (omega arith)
-    (found_here t.places t.places (hit t c.args.b.now c.args.a (g.P.Record.asked c.args.q)) _ c.if-is_hit.true c.is_hit.ensures c.loop-i-test.true c.loop-i.invariant.1)
-    refl
-
-pub loop-i-preserved : goal.loop-i-preserved
-loop-i-preserved g c =
-    let t = g.P.Record.table in
-    (omega arith, found_less t.places t.places (hit t c.args.b.now c.args.a (g.P.Record.asked c.args.q)) _ c.if-is_hit.false c.is_hit.ensures c.loop-i-test.true c.loop-i.invariant.1)
 
 pub returns : goal.returns
 returns g c =
     let t = g.P.Record.table in
-    place_lost _ _ _ (sym g.met.P.Record.stands.0)
-    (found_none t.places t.places (hit t c.args.b.now c.args.a (g.P.Record.asked c.args.q)) _ (omega arith) c.loop-i.invariant.1)
+    let p = hit t c.args.b.now c.args.a (g.P.Record.asked c.args.q) in
+    found_last _ t.places p c.find.result g.met.P.Record.stands.0
+    (find_from_yields_List {steps = rev_steps back} {s = c.rev.result} p _ _ c.find.result c.find.ensures.ran
+    (record { runs = down_gives _ _ _ c.PLACES.ensures c.rev.ensures.source })
+    (λ x b q k. search rules))

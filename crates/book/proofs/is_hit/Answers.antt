@@ -1,4 +1,5 @@
--- `book::is_hit` meets its contract. Assumes nothing.
+-- `book::is_hit` meets its contract: the facts are named, so that another place or record is refused for certain.
+-- Assumes nothing.
 use Rattle.book.proofs.Place.{hit_at, miss_at}
 use Rattle.book.proofs.is_hit.Goals as goal
 

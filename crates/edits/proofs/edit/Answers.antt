@@ -9,7 +9,7 @@ returns-in-AddType c =
 
 pub returns-in-EndType : goal.returns-in-EndType
 returns-in-EndType c =
-    let e = edit_e c.args.b.now _ c.args.c c.in-EndType.number c.in-EndType.object c.in-EndType.last c.in-EndType.is c.end_type.ensures in
+    let e = edit_e c.args.b.now _ c.args.c c.in-EndType.key c.in-EndType.last c.in-EndType.is c.end_type.ensures in
     record { bytes = e; meant = edit_meant _ _ _ e }
 
 pub returns-in-AddRule : goal.returns-in-AddRule
@@ -19,22 +19,22 @@ returns-in-AddRule c =
 
 pub returns-in-Reorder : goal.returns-in-Reorder
 returns-in-Reorder c =
-    let e = edit_o c.args.b.now _ c.args.c c.in-Reorder.new c.in-Reorder.is c.reorder.ensures in
+    let e = edit_o c.args.b.now _ c.args.c c.in-Reorder.key c.in-Reorder.new c.in-Reorder.is c.reorder.ensures in
     record { bytes = e; meant = edit_meant _ _ _ e }
 
 pub returns-in-DeleteRule : goal.returns-in-DeleteRule
 returns-in-DeleteRule c =
-    let e = edit_d c.args.b.now _ c.args.c c.in-DeleteRule.is c.delete_rule.ensures in
+    let e = edit_d c.args.b.now _ c.args.c c.in-DeleteRule.key c.in-DeleteRule.is c.delete_rule.ensures in
     record { bytes = e; meant = edit_meant _ _ _ e }
 
 pub returns-in-AddRow : goal.returns-in-AddRow
 returns-in-AddRow c =
-    let e = edit_m c.args.b.now _ c.args.c c.in-AddRow.is c.add-in-AddRow.ensures in
+    let e = edit_m c.args.b.now _ c.args.c c.in-AddRow.w c.in-AddRow.is c.add-in-AddRow.ensures in
     record { bytes = e; meant = edit_meant _ _ _ e }
 
 pub returns-in-DeleteRow : goal.returns-in-DeleteRow
 returns-in-DeleteRow c =
-    let e = edit_n c.args.b.now _ c.args.c c.in-DeleteRow.is c.delete_row.ensures in
+    let e = edit_n c.args.b.now _ c.args.c c.in-DeleteRow.w c.in-DeleteRow.is c.delete_row.ensures in
     record { bytes = e; meant = edit_meant _ _ _ e }
 
 pub returns-in-AddPeriod : goal.returns-in-AddPeriod

@@ -3,4 +3,4 @@ use Rattle.judge.proofs.Listing.{first_by}
 use Rattle.judge.proofs.first_rule.Goals as goal
 
 pub returns : goal.returns
-returns c = search first_by
+returns c = first_by _ _ _ c.first_positive.ensures c.rules_listed.ensures

@@ -6,10 +6,9 @@ use Rattle.judge.proofs.judge_within.Goals as goal
 pub returns : goal.returns
 returns c =
     let all =
-    by_scope _ _ _ _ _ _ _ _ c.types_exempted.result
+    by_scope _ _ _ _ _ _ _ c.types_exempted.result
     c.types_exempted.ensures
-    c.verdict.ensures
-    c.types_named-named.ensures
-    c.signs_matched-signs.ensures
+    c.found.ensures
+    c.signs-signs.ensures
     c.rules_within.ensures
     in record { by_bytes = all.0; exempts_by_bytes = all.1.0; meant = all.1.1.0; exempts_meant = all.1.1.1 }

@@ -1,5 +1,5 @@
 -- `judge::none_listed` meets its contract. Assumes nothing.
-use mathlib.Core.Path.{refl}
+use Rattle.std.proofs.Common.{refl}
 use Rattle.judge.specs.Stages.{none_listed}
 use Rattle.judge.proofs.none_listed.Goals as goal
 

@@ -1,5 +1,5 @@
 -- `judge::rules_listed` meets its contract. Assumes nothing.
-use Prim.Native.Nat.{◌-◌, ◌≤◌}
+use Rattle.std.proofs.Common.{◌-◌, ◌≤◌}
 use Rattle.tables.specs.Keyed.{marked}
 use Rattle.judge.specs.Stages.{sequences, Listed}
 use Rattle.judge.proofs.rules_listed.Given as goal

@@ -5,8 +5,8 @@ use Rattle.keler.proofs.refusal.Goals as goal
 pub returns-then-not-is_admitted : goal.returns-then-not-is_admitted
 returns-then-not-is_admitted c = not_admitted _ _ _ _ _ _ c.is_admitted.ensures c.if-not-is_admitted.true
 
-pub returns-then-dates : goal.returns-then-dates
-returns-then-dates c = too_early _ _ _ _ _ _ c.is_admitted.ensures c.if-not-is_admitted.false c.if-dates.true
+pub returns-then-set : goal.returns-then-set
+returns-then-set c = too_early _ _ _ _ _ _ c.is_admitted.ensures c.if-not-is_admitted.false c.if-set.true
 
 pub returns : goal.returns
-returns c = not_refused _ _ _ _ _ _ c.is_admitted.ensures c.if-not-is_admitted.false c.if-dates.false
+returns c = not_refused _ _ _ _ _ _ c.is_admitted.ensures c.if-not-is_admitted.false c.if-set.false

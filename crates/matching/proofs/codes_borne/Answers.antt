@@ -2,7 +2,7 @@
 use Rattle.std.proofs.Common.{arith, refl}
 use Rattle.places.specs.Layout.{period_places, period_at}
 use Rattle.marks.proofs.Flagging.{keyed_flags}
-use Rattle.passes.proofs.Passing.{blank_whole, keyed_of}
+use Rattle.passes.proofs.Passing.{keyed_of}
 use Rattle.matching.specs.MatchedRows.{code_keys, code_entries, period_key, borne_by, codes_borne}
 use Rattle.matching.proofs.codes_borne.Goals as goal
 

@@ -1,12 +1,18 @@
 -- `matching::values_met` meets its contract. Assumes nothing.
+use Rattle.std.proofs.Common.{ℕ, Bool, ◌&&◌, get_or, ◌∙◌}
 use Rattle.tables.specs.Count.{all_below}
-use Rattle.matching.specs.MatchedRows.{test_at, values_met}
+use Rattle.marks.specs.Flags.{flagged}
+use Rattle.matching.specs.MatchedRows.{kinds, tests, test_at, value_met, values_met}
+use Rattle.matching.proofs.RowValues.{codes_asked, codes_unasked}
 use Rattle.matching.proofs.values_met.Goals as goal
 
-pub returns : goal.returns
+pub returns-then-own : goal.returns-then-own
 unfolding all_below test_at values_met
-returns c =
-    rw (
+returns-then-own c =
+    codes_asked
+    (c.is_met.result && c.is_met-2.result && c.is_met-3.result && c.is_met-4.result && c.is_met-5.result && c.is_met-6.result)
+    c.is_met-7.result c.is_borne.result c.is_borne-then-own.result c.is_borne-then-own-2.result c.if-own.true
+    ∙ rw (
       c.is_met.ensures,
       c.is_met-2.ensures,
       c.is_met-3.ensures,
@@ -14,7 +20,24 @@ returns c =
       c.is_met-5.ensures,
       c.is_met-6.ensures,
       c.is_borne.ensures,
-      c.is_borne-2.ensures,
-      c.is_borne-3.ensures,
+      c.is_borne-then-own.ensures,
+      c.is_borne-then-own-2.ensures,
+      c.is_met-7.ensures,
+    )
+
+pub returns-else-own : goal.returns-else-own
+unfolding all_below test_at values_met
+returns-else-own c =
+    let met : ℕ → Bool = λ i. value_met (tests c.args.q (flagged kinds c.args.codes.now)) i (get_or c.args.values i 0) in
+    codes_unasked
+    (c.is_met.result && c.is_met-2.result && c.is_met-3.result && c.is_met-4.result && c.is_met-5.result && c.is_met-6.result)
+    c.is_met-7.result (met 6) (met 7) (met 8) c.if-own.false
+    ∙ rw (
+      c.is_met.ensures,
+      c.is_met-2.ensures,
+      c.is_met-3.ensures,
+      c.is_met-4.ensures,
+      c.is_met-5.ensures,
+      c.is_met-6.ensures,
       c.is_met-7.ensures,
     )

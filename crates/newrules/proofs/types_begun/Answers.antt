@@ -2,7 +2,6 @@
 use Rattle.std.proofs.Common.{refl}
 use Rattle.tables.proofs.Keying.{keyed_marks}
 use Rattle.places.specs.Layout.{type_places, type_at}
-use Rattle.passes.proofs.Passing.{blank_whole, keyed_of}
 use Rattle.newrules.specs.NewRules.{begun_keys, first_key, has_begun, types_begun}
 use Rattle.newrules.proofs.types_begun.Goals as goal
 
@@ -10,4 +9,4 @@ pub returns : goal.returns
 unfolding types_begun
 returns c =
     keyed_marks begun_keys _ c.args.q.csd (type_at c.args.b.now) (first_key c.args.q) (has_begun c.args.q) _ type_places
-    type_places (keyed_of _ begun_keys c.blank-t.ensures.long c.run.ensures) refl
+    type_places c.table.ensures refl

@@ -6,6 +6,3 @@ use Rattle.owners.proofs.eight_passed.Goals as goal
 pub returns-then-at-width : goal.returns-then-at-width
 returns-then-at-width g c =
     eight_passed c.args.b.now _ _ c.args.a _ _ _ _ c.first_of_eight.ensures c.address-at.ensures (omega arith)
-
-pub returns : goal.returns
-returns g c = (omega arith, λ j low high. absurd (omega arith))

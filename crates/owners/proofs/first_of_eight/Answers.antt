@@ -1,33 +1,22 @@
 -- `owners::first_of_eight` meets its contract. Assumes nothing.
-use mathlib.Core.Path.{◌≡◌}
-use native.Mathlib.Omega.{arith}
-use borrow.Author.Tests.{eq-eqb, ne_eqb}
-use Rattle.owners.proofs.Finding.{seven, first_at, first_none, passed_none, passed_more}
+use Rattle.std.proofs.Common.{rules, arith, ℕ, ◌+◌, ◌*◌, ◌≡◌, ◌≤◌, Bool, true, false, eqb}
+use borrow.Author.Tests.{tests}
+use Rattle.std.proofs.lemmas.Iterator.{serves_from_Range, first_from_Range}
+use Rattle.tables.specs.Bytes.{byte_at}
+use Rattle.owners.proofs.Finding.{seven, found_from}
 use Rattle.owners.proofs.first_of_eight.Goals as goal
 
-pub loop-j-init : goal.loop-j-init
-loop-j-init c = (omega arith, passed_none _ 0)
-
-pub overflow_mul-j : goal.overflow_mul-j
-overflow_mul-j c = omega (arith, seven c.loop-j.j c.args.width (omega arith))
-
-pub overflow_add-at : goal.overflow_add-at
-overflow_add-at c = omega (arith, seven c.loop-j.j c.args.width (omega arith))
-
-pub bounds-b-at : goal.bounds-b-at
-bounds-b-at c = omega (arith, seven c.loop-j.j c.args.width (omega arith))
-
-pub returns-then-b-at : goal.returns-then-b-at
-returns-then-b-at c = first_at _ _ _ _ (omega arith) (omega arith) c.loop-j.invariant.1 (eq-eqb _ _ c.if-b-at.true)
-
-pub overflow_step-j : goal.overflow_step-j
-overflow_step-j c = omega arith
-
-pub loop-j-smaller : goal.loop-j-smaller
-loop-j-smaller c = omega arith
-
-pub loop-j-preserved : goal.loop-j-preserved
-loop-j-preserved c = (omega arith, passed_more _ _ _ c.loop-j.invariant.1 (ne_eqb _ _ c.if-b-at.false))
+pub find-requires-clause-callable : goal.find-requires-clause-callable
+find-requires-clause-callable c =
+    serves_from_Range (λ x q k. search rules)
+    (λ x l h y e.
+    let low : y.now * c.args.width ≤ 7 * c.args.width = seven y.now c.args.width (omega (arith, e, h)) in (
+      λ v1 v2 v3 v4 v5 v6 v7 v8 v9. omega (arith, low),
+      λ v1 v2 v3 v4 v5 v6 v7 v8 v9. omega (arith, low),
+      λ v1 v2 v3 v4 v5 v6 v7 v8 v9 v10. omega (arith, low),
+    ))
 
 pub returns : goal.returns
-returns c = let e : c.loop-j.j ≡ 8 = omega arith in first_none _ 0 8 (rw e at c.loop-j.invariant.1)
+returns c =
+    let p : ℕ → Bool = λ j. eqb (byte_at c.args.b.now (c.args.at + j * c.args.width)) c.args.a in
+    found_from p 0 8 c.find.result _ (first_from_Range _ _ _ c.find.result (λ x. p x ≡ true) (λ x. p x ≡ false) c.find.ensures.ran (λ x q k. search (rules, tests)) (λ x q k. search (rules, tests))) c.unwrap_or.ensures

@@ -1,36 +1,19 @@
 -- `owners::next` meets its contract. Assumes nothing.
-use Prim.Native.Nat.{◌<◌}
-use native.Mathlib.Omega.{arith}
-use Rattle.owners.proofs.Finding.{own_place, other_place, passed_more, next_at, next_none, next_of, place_found, place_lost}
+use Rattle.std.proofs.Common.{rules, ℕ, ◌≡◌, Bool, true, false, ap, ◌∙◌}
+use borrow.Author.Tests.{tests}
+use Rattle.std.proofs.lemmas.Iterator.{serves_from_Range, first_from_Range}
+use Rattle.owners.specs.Next.{owned, place_if}
+use Rattle.owners.proofs.Finding.{found_next, next_of}
 use Rattle.owners.proofs.next.Goals as goal
 
-pub loop-k-init : goal.loop-k-init
-loop-k-init g c = c.pass-from.ensures
-
-pub returns-then-byte_at-a : goal.returns-then-byte_at-a
-returns-then-byte_at-a g c =
-    let l : c.loop-k.k < g.P.Place.PLACES = omega arith in
-    place_found _ _ _ _ l
-    (next_at _ _ _ _ c.loop-k.invariant.0 l c.loop-k.invariant.1
-    (own_place c.args.b.now _ _ _ _ _ _ c.byte_at.ensures c.address.ensures c.if-byte_at-a.true))
-    (next_of g.P.Place.csd g.P.Place.at g.P.Place.from g.P.Place.widths _ _ g.met.P.Place.reads g.met.P.Place.first
-    c.args.b.now c.args.a g.P.Place.PLACES c.args.i)
-
-pub overflow_step-k : goal.overflow_step-k
-overflow_step-k g c = omega arith
-
-pub loop-k-smaller : goal.loop-k-smaller
-loop-k-smaller g c = omega arith
-
-pub loop-k-preserved : goal.loop-k-preserved
-loop-k-preserved g c = (
-  omega arith,
-  passed_more _ _ _ c.loop-k.invariant.1
-      (other_place c.args.b.now _ _ _ _ _ _ c.byte_at.ensures c.address.ensures c.if-byte_at-a.false),
-)
+pub find-requires-clause-callable : goal.find-requires-clause-callable
+find-requires-clause-callable g c = serves_from_Range (λ x q k. search rules) (λ x l h y e. search rules)
 
 pub returns : goal.returns
 returns g c =
-    place_lost _ _ _ (next_none _ _ _ _ (omega arith) c.loop-k.invariant.1)
+    let p : ℕ → Bool = owned c.args.b.now g.P.Place.START g.P.Place.WIDTH c.args.a in
+    found_next p g.P.Place.PLACES c.args.i _ c.find.result c.pass-from.ensures.0 c.pass-from.ensures.1
+    (rw (c.PLACES.ensures) at (first_from_Range _ _ _ c.find.result (λ x. p x ≡ true) (λ x. p x ≡ false) c.find.ensures.ran (λ x q k. search (rules, tests)) (λ x q k. search (rules, tests))))
+    ∙ ap (place_if g.P.Place.PLACES)
     (next_of g.P.Place.csd g.P.Place.at g.P.Place.from g.P.Place.widths _ _ g.met.P.Place.reads g.met.P.Place.first
     c.args.b.now c.args.a g.P.Place.PLACES c.args.i)

@@ -1,7 +1,7 @@
 -- `passes::run` meets its contract. Assumes nothing.
-use Rattle.std.proofs.Common.{◌≡◌, ◌<◌, ◌+◌, length, arith, ap, ◌∙◌}
+use Rattle.std.proofs.Common.{◌≡◌, ◌<◌, ◌+◌, arith, ap, ◌∙◌, length}
 use Rattle.tables.specs.Bytes.{zeros}
-use Rattle.passes.proofs.Passing.{cleared, pass_begun, passed_on, passed_all}
+use Rattle.passes.proofs.Passing.{cleared, pass_begun, stored_some, stored_none, passed_on, passed_all}
 use Rattle.passes.proofs.run.Goals as goal
 
 pub loop-i-init : goal.loop-i-init
@@ -22,6 +22,20 @@ loop-i-init g c =
       ),
     )
 
+pub loop-i-preserved-in-Some-entry : goal.loop-i-preserved-in-Some-entry
+loop-i-preserved-in-Some-entry g c =
+    let s = c.in-Some.ensures.steps in
+    let m = c.loop-i.invariant in
+    let next : c.next.new.self.i ≡ c.in-Some.i + 1 = s.3 in
+    let h =
+    passed_on (length c.args.t.now) g.S.Record.Place.csd g.S.Record.Place.at (g.S.Pass.key c.args.asked.now)
+    (g.S.Pass.on c.args.asked.now) (g.S.Pass.entry c.args.asked.now) g.S.Record.Place.PLACES c.args.b.now c.args.a
+    c.loop-i.t _ _ _ _ c.in-Some.i _ _ m.1.1.1 m.1.1.0 m.0 m.1.0 s.0 (stored_some _ _ _ _ _ c.store.ensures c.in-Some-entry.is)
+    c.entry.ensures c.record_at.ensures
+    in
+    let low : c.in-Some.i < g.S.Record.Place.PLACES = h.0 in
+    (ap (λ x. x.now) s.1 ∙ m.0, (s.2 ∙ m.1.0, (omega arith, rw next h.1)))
+
 pub loop-i-preserved : goal.loop-i-preserved
 loop-i-preserved g c =
     let s = c.in-Some.ensures.steps in
@@ -30,8 +44,8 @@ loop-i-preserved g c =
     let h =
     passed_on (length c.args.t.now) g.S.Record.Place.csd g.S.Record.Place.at (g.S.Pass.key c.args.asked.now)
     (g.S.Pass.on c.args.asked.now) (g.S.Pass.entry c.args.asked.now) g.S.Record.Place.PLACES c.args.b.now c.args.a
-    c.loop-i.t c.store.new.t _ _ _ c.in-Some.i _ _ _ c.record_at-r.result _ m.1.1.1 m.1.1.0 m.0 m.1.0 s.0 c.store.ensures
-    c.is_on.ensures c.entry-entry.ensures c.byte_at.ensures c.key-k.ensures c.record_at-r.ensures
+    c.loop-i.t _ _ _ _ c.in-Some.i _ _ m.1.1.1 m.1.1.0 m.0 m.1.0 s.0 (stored_none _ _ c.in_default.is)
+    c.entry.ensures c.record_at.ensures
     in
     let low : c.in-Some.i < g.S.Record.Place.PLACES = h.0 in
     (ap (λ x. x.now) s.1 ∙ m.0, (s.2 ∙ m.1.0, (omega arith, rw next h.1)))

@@ -2,13 +2,14 @@
 use Rattle.pending.proofs.Meets.{after_rejected, after_by}
 use Rattle.pending.proofs.after.Goals as goal
 
-pub returns-then-v : goal.returns-then-v
-returns-then-v c = search after_rejected
+pub returns-then-is_some : goal.returns-then-is_some
+returns-then-is_some c = search after_rejected
 
 pub returns : goal.returns
 returns c =
-    after_by c.args.k c.args.day _ _ c.args.found.verdict c.args.found.exempted _
+    after_by c.args.k c.args.day _ _ c.args.found.verdict c.args.found.exempted _ _
     c.with_types-remembered.ensures
     c.since-holding.ensures
     c.since-validating.ensures
-    c.if-v.false
+    c.is_some.ensures
+    c.if-is_some.false

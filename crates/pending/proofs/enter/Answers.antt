@@ -1,4 +1,5 @@
 -- `pending::enter` meets its contract. Assumes nothing.
+use Rattle.std.proofs.Common.{refl}
 use Rattle.pending.proofs.Meets.{entered_by_lem}
 use Rattle.pending.proofs.enter.Goals as goal
 
@@ -11,5 +12,5 @@ returns c =
     c.judge_within-found.ensures.by_bytes
     c.judge_within-found.ensures.exempts_by_bytes
     c.whole.ensures
-    c.none_passed-none.ensures
+    refl
     in record { by_bytes = all.0; meant = all.1 }

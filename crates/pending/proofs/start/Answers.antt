@@ -1,5 +1,5 @@
 -- `pending::start` meets its contract. Assumes nothing.
-use mathlib.Core.Path.{refl}
+use Rattle.std.proofs.Common.{refl}
 use Rattle.pending.proofs.Meets.{started_by_lem}
 use Rattle.pending.proofs.start.Goals as goal
 

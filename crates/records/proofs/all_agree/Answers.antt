@@ -1,40 +1,13 @@
--- `records::all_agree` meets its contract. The invariant: what was found is that the criteria passed agree. Assumes
--- nothing.
-use Rattle.tables.proofs.Counts.{all_none, all_more}
-use Rattle.records.specs.Criteria.{agrees}
-use mathlib.Core.Path.{◌≡◌, sym}
-use native.Mathlib.Omega.{arith}
-use borrow.Author.Rules.{rules}
+-- `records::all_agree` meets its contract. Assumes nothing.
+use Rattle.std.proofs.Common.{rules, refl}
+use Rattle.std.proofs.lemmas.Iterator.{YieldsList-from_range}
+use Rattle.std.proofs.lemmas.Iterator.Search.{all_from_yields_List}
+use Rattle.records.specs.Criteria.{belongs, agrees}
+use Rattle.records.proofs.Ten.{all_ten, agreeing}
 use Rattle.records.proofs.all_agree.Goals as goal
 
-pub loop-i-init : goal.loop-i-init
-unfolding agrees
-loop-i-init c = (search rules, sym (all_none _))
-
-pub overflow_cast-k : goal.overflow_cast-k
-unfolding agrees
-overflow_cast-k c = omega arith
-
-pub offset_bounds-v-k : goal.offset_bounds-v-k
-unfolding agrees
-offset_bounds-v-k c = omega arith
-
-pub bounds-v-k : goal.bounds-v-k
-unfolding agrees
-bounds-v-k c = omega arith
-
-pub overflow_step-i : goal.overflow_step-i
-unfolding agrees
-overflow_step-i c = omega arith
-
-pub loop-i-smaller : goal.loop-i-smaller
-unfolding agrees
-loop-i-smaller c = omega arith
-
-pub loop-i-preserved : goal.loop-i-preserved
-unfolding agrees
-loop-i-preserved c = (omega arith, rw all_more cc)
-
 pub returns : goal.returns
-unfolding agrees
-returns c = let e : c.loop-i.i ≡ 10 = omega arith in rw e at c.loop-i.invariant.1
+returns c =
+    all_ten (agrees c.args.criteria c.args.v) c.all.result
+    (all_from_yields_List (agrees c.args.criteria c.args.v) _ _ c.all.result c.all.ensures.ran (YieldsList-from_range 0 10 10 refl refl)
+    (λ x b q k. (search rules, agreeing _ _ _ (belongs c.args.criteria x) _ refl (search rules))))

@@ -1,14 +1,8 @@
 -- `soundness::held` meets its contract. Assumes nothing.
-use Rattle.std.proofs.Common.{◌≡◌, ◌<◌, refl, arith, rules}
-use Rattle.soundness.proofs.KindFacts.{kind_few}
-use Rattle.soundness.specs.Kinds.{table_of, address_of, alike_at}
-use Rattle.soundness.proofs.Walks.{walkable, held_walk, held_here}
+use Rattle.std.proofs.Common.{◌≡◌, refl, rules}
+use Rattle.soundness.specs.Kinds.{address_of, alike_at}
+use Rattle.soundness.proofs.Walks.{held_walk, held_here}
 use Rattle.soundness.proofs.held.Goals as goal
-
-pub any-requires : goal.any-requires
-any-requires g c =
-    walkable c.args.book.bytes.now g.R.Placed.kind _ _ c.args.i _ c.requires.chained_of (omega (arith, c.requires.place, kind_few g.R.Placed.kind)) (omega arith)
-    (λ j l. let h : j < (table_of g.R.Placed.kind).places = omega (arith, l, c.requires.place) in search rules)
 
 pub returns : goal.returns
 returns g c =

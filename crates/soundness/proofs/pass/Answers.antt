@@ -1,10 +1,7 @@
 -- `soundness::pass` meets its contract. Assumes nothing.
 use Rattle.std.proofs.Common.{◌∙◌, ap, not}
-use Rattle.soundness.proofs.Passes.{first_inside, used_at, used_of, lone_bucket, lone_inside, entry_inside, pass_free, pass_over, pass_chained, pass_unfit, pass_held, pass_on}
+use Rattle.soundness.proofs.Passes.{used_at, used_of, lone_bucket, lone_inside, pass_free, pass_over, pass_unfit, pass_held, pass_on}
 use Rattle.soundness.proofs.pass.Goals as goal
-
-pub one-csd-requires : goal.one-csd-requires
-one-csd-requires g c = search first_inside
 
 pub returns-then-csd-eq0 : goal.returns-then-csd-eq0
 returns-then-csd-eq0 g c = search pass_free
@@ -27,17 +24,11 @@ held-requires-clause-k_value g c = lone_bucket _ g.R.Placed.kind _ _ _ c.of-plac
 pub held-requires-clause-k_bound : goal.held-requires-clause-k_bound
 held-requires-clause-k_bound g c = search lone_inside
 
-pub held-requires-clause-chained_of : goal.held-requires-clause-chained_of
-held-requires-clause-chained_of g c = pass_chained _ g.R.Placed.kind _ _ _ c.of-place.ensures c.one-csd.ensures _ c.requires.ready _ (c.QUOTA.ensures ∙ g.met.R.Placed.few) _ _ c.counted.ensures c.if-csd-eq0.false (ap not c.if-not-counted.false)
-
 pub returns-then-held : goal.returns-then-held
 returns-then-held g c = pass_held _ g.R.Placed.kind _ _ _ c.of-place.ensures c.one-csd.ensures _ c.requires.ready _ (c.QUOTA.ensures ∙ g.met.R.Placed.few) _ _ c.counted.ensures c.if-csd-eq0.false _ c.held.ensures c.if-held.true
 
 pub enter-requires-clause-k_bound : goal.enter-requires-clause-k_bound
 enter-requires-clause-k_bound g c = search lone_inside
-
-pub enter-requires-clause-i_bound : goal.enter-requires-clause-i_bound
-enter-requires-clause-i_bound g c = search entry_inside
 
 pub returns : goal.returns
 returns g c = pass_on _ g.R.Placed.kind _ _ _ c.of-place.ensures c.one-csd.ensures _ c.requires.ready _ (c.QUOTA.ensures ∙ g.met.R.Placed.few) _ _ c.counted.ensures c.if-csd-eq0.false _ _ _ _ c.enter.ensures c.held.ensures c.if-held.false c.lone.ensures c.in-Some.is (ap not c.if-not-counted.false)

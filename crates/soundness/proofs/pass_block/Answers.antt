@@ -1,13 +1,7 @@
 -- `soundness::pass_block` meets its contract. Assumes nothing.
 use Rattle.std.proofs.Common.{◌∙◌}
-use Rattle.soundness.proofs.Passes.{block_place, block_wide, block_within, block_first}
+use Rattle.soundness.proofs.Passes.{block_first}
 use Rattle.soundness.proofs.pass_block.Goals as goal
-
-pub free_first-free-requires-clause-wide : goal.free_first-free-requires-clause-wide
-free_first-free-requires-clause-wide g c = block_wide c.args.book.bytes.now g.R.Placed.kind _ c.requires.block _ (c.WIDTH.ensures ∙ g.met.R.Placed.wide)
-
-pub free_first-free-requires-clause-width_in_bounds : goal.free_first-free-requires-clause-width_in_bounds
-free_first-free-requires-clause-width_in_bounds g c = block_within c.args.book.bytes.now g.R.Placed.kind _ c.requires.block _ _ (c.WIDTH.ensures ∙ g.met.R.Placed.wide) c.of-place.ensures
 
 pub pass_each-requires-clause-going : goal.pass_each-requires-clause-going
 pass_each-requires-clause-going g c = block_first c.args.book.bytes.now g.R.Placed.kind _ c.requires.block _ _ _ _ c.free_first-free.ensures (c.WIDTH.ensures ∙ g.met.R.Placed.wide) c.of-place.ensures c.requires.going

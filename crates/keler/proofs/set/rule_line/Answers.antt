@@ -6,4 +6,4 @@ use Rattle.keler.proofs.set.rule_line.Goals as goal
 
 pub returns : goal.returns
 unfolding keler_rules
-returns c = ruled c.args.n c.args.csd c.args.dates.day c.args.dates.first c.args.dates.last c.write_line.ensures refl refl refl refl refl c.requires
+returns c = ruled c.args.n c.args.set.csd c.args.set.day c.args.set.first c.args.set.last c.write_line.ensures refl refl refl refl refl c.requires

@@ -2,14 +2,14 @@
 use Rattle.keler.proofs.SetLines.{a_type, a_rule, a_row, none}
 use Rattle.keler.proofs.set.set_line.Goals as goal
 
-pub returns-then-n-lt10 : goal.returns-then-n-lt10
-returns-then-n-lt10 c = search a_type
+pub returns-then-n-lt-TYPES : goal.returns-then-n-lt-TYPES
+returns-then-n-lt-TYPES c = a_type _ _ _ _ c.args.n c.type_line.ensures c.if-n-lt-TYPES.true
 
-pub returns-then-n-lt23 : goal.returns-then-n-lt23
-returns-then-n-lt23 c = search a_rule
+pub returns-then-rule-lt-RULES : goal.returns-then-rule-lt-RULES
+returns-then-rule-lt-RULES c = a_rule _ _ _ _ c.args.n c.rule_line.ensures c.if-rule-lt-RULES.true c.if-n-lt-TYPES.false
 
-pub returns-then-n-lt55 : goal.returns-then-n-lt55
-returns-then-n-lt55 c = search a_row
+pub returns-then-row-lt-ROWS : goal.returns-then-row-lt-ROWS
+returns-then-row-lt-ROWS c = a_row _ _ _ _ c.args.n c.row_line.ensures c.if-row-lt-ROWS.true c.if-rule-lt-RULES.false
 
 pub returns : goal.returns
-returns c = search none
+returns c = none c.args.set.csd c.args.set.day c.args.set.first c.args.set.last c.args.n c.new.ensures c.if-row-lt-ROWS.false

@@ -6,4 +6,4 @@ use Rattle.keler.proofs.set.type_line.Goals as goal
 
 pub returns : goal.returns
 unfolding keler_types
-returns c = typed c.args.n c.args.csd c.args.dates.day c.args.dates.first c.args.dates.last c.write_line.ensures refl refl refl c.requires
+returns c = typed c.args.n c.args.set.csd c.args.set.day c.args.set.first c.args.set.last c.write_line.ensures refl refl refl c.requires

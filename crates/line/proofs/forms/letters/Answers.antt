@@ -18,4 +18,4 @@ returns c =
     let e =
     all_from_yields_List is_capital _ _ c.all.result c.all.ensures.ran (YieldsList-from_slice f c.iter.ensures.rest)
     (λ x b q k. search (rules, tests)) in
-    right_length f c.args.n c.if-f-n.false (e ∙ every_all is_capital f) c.word.ensures c.given.ensures
+    right_length f c.args.n c.if-f-n.false (e ∙ every_all is_capital f) c.word.ensures c.then_some.ensures

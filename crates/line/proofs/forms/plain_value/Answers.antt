@@ -1,8 +1,10 @@
--- The words of two forms: named, so that another word is refused for certain. The check finds the other arms alone.
+-- `line::forms::plain_value` meets its contract.
+use mathlib.Core.Path.{ap, sym, ◌∙◌}
+use Rattle.meaning.specs.Forms.{one_of, read}
+use Rattle.shapes.proofs.Choices.{choice_form}
 use Rattle.line.proofs.forms.plain_value.Goals as goal
 
-pub returns-in-Movement : goal.returns-in-Movement
-returns-in-Movement c = rw c.in-Movement.is c.one_of-in-Movement.ensures
-
-pub returns-in-Wish : goal.returns-in-Wish
-returns-in-Wish c = rw c.in-Wish.is c.one_of-in-Wish.ensures
+pub returns-in-Sign : goal.returns-in-Sign
+returns-in-Sign c =
+    c.one_of.ensures
+    ∙ ap (λ φ. read φ c.args.f.now) (ap one_of c.words.ensures.words ∙ sym (choice_form c.args.form c.in-Sign.is))

@@ -1,13 +1,12 @@
 -- `line::reading::by_shape` meets its contract.
-use Rattle.line.proofs.Readings.{miscounted, bad_field, good_fields}
+use mathlib.Core.Path.{◌∙◌}
+use Rattle.line.proofs.Readings.{refused_by, bad_field, good_fields}
 use Rattle.line.proofs.reading.by_shape.Goals as goal
 
-pub returns-in_default : goal.returns-in_default
-returns-in_default c = miscounted _ c.in_default.is
-
-pub returns-in_default-read_values : goal.returns-in_default-read_values
-returns-in_default-read_values c = bad_field _ c.in-Some.shape c.in-Some.is c.read_values.ensures c.in_default-read_values.is
+pub returns-in_err-values : goal.returns-in_err-values
+returns-in_err-values c =
+    let none = c.in_err-values.ensures.ok_part in
+    refused_by _ _ c.in_err-values.ensures.value none c.from_residual.ensures.1 ∙ bad_field _ c.args.shape c.read_values.ensures none
 
 pub returns : goal.returns
-returns c =
-    good_fields _ c.in-Some.shape c.in-Some.is c.read_values.ensures c.in-Some-read_values.is c.letter-letter.ensures
+returns c = good_fields _ c.args.shape c.read_values.ensures c.in_ok-values.ensures.ok_part c.letter-letter.ensures

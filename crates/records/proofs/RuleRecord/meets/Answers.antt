@@ -10,6 +10,3 @@ returns-in-Named c = search rule_named
 
 pub returns-in-Fills : goal.returns-in-Fills
 returns-in-Fills c = search rule_met
-
-pub returns-in-Other : goal.returns-in-Other
-returns-in-Other c = search rule_met

@@ -1,9 +1,6 @@
 -- `soundness::free::free_first` meets its contract. Assumes nothing.
-use Rattle.soundness.proofs.FreeWords.{first_none, first_all}
+use Rattle.soundness.proofs.FreeWords.{first_none}
 use Rattle.soundness.proofs.free.free_first.Goals as goal
 
 pub returns-then-one-ne0 : goal.returns-then-one-ne0
 returns-then-one-ne0 c = search first_none
-
-pub returns-then-runs_zero : goal.returns-then-runs_zero
-returns-then-runs_zero c = search first_all

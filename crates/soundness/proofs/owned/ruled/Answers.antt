@@ -1,8 +1,8 @@
 -- `soundness::owned::ruled` meets its contract. Assumes nothing.
-use Rattle.std.proofs.Common.{◌≡◌, arith, rules}
+use Rattle.std.proofs.Common.{arith, rules}
 use Rattle.places.specs.Layout.{rule_places}
 use Rattle.soundness.specs.Kind as Kinds
-use Rattle.soundness.specs.Kinds.{ruled_in}
+use Rattle.soundness.proofs.BucketWords.{rule_bucket_of_lem}
 use Rattle.soundness.proofs.Walks.{walkable, ruled_unfit, criteria_filled, ruled_found}
 use Rattle.soundness.proofs.owned.ruled.Goals as goal
 
@@ -16,5 +16,5 @@ any-requires c =
 
 pub returns : goal.returns
 returns c =
-    ruled_found c.args.book.bytes.now c.args.place.start _ c.filled.ensures _ _ _ _ _ c.any.ensures c.in-Some.is c.rule_bucket_of.ensures.value c.requires.at_nonzero c.requires.chained_of
+    ruled_found c.args.book.bytes.now c.args.place.start _ c.filled.ensures _ _ _ _ _ c.any.ensures c.in-Some.is (rule_bucket_of_lem c.args.book.bytes.now c.args.place.start c.key_bucket.ensures.value c.four.ensures.value) c.requires.at_nonzero c.requires.chained_of
     (λ j t l p. search (rules, p))

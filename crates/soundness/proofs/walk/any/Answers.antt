@@ -1,19 +1,12 @@
 -- `soundness::walk::any` meets its contract. Assumes nothing.
-use Rattle.std.proofs.Common.{rules}
-use Rattle.chains.proofs.Walks.{walked_start, walked_may, walked_inside, walked_less, walked_on, walked_found, walked_end}
+use Rattle.chains.proofs.Walks.{walked_start, walked_less, walked_on, walked_found, walked_end}
 use Rattle.soundness.proofs.walk.any.Goals as goal
 
 pub loop-j-init : goal.loop-j-init
 loop-j-init g c = search walked_start
 
-pub asked-requires : goal.asked-requires
-asked-requires g c = search (rules, walked_may)
-
 pub returns-then-asked : goal.returns-then-asked
 returns-then-asked g c = search walked_found
-
-pub bounds-seen-j : goal.bounds-seen-j
-bounds-seen-j g c = search walked_inside
 
 pub loop-j-smaller : goal.loop-j-smaller
 loop-j-smaller g c = search walked_less

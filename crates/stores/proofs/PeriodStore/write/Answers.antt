@@ -1,6 +1,9 @@
 -- `stores::PeriodStore::write` meets its contract. Assumes nothing.
-use Rattle.stores.proofs.Storing.{period_put}
+-- Written by tools/places.py: change that, then run tools/generate.
+use Rattle.tables.specs.Bytes.{digits, bytes_of}
+use Rattle.stores.specs.Numbers.{bytes, all_bytes}
 use Rattle.stores.proofs.PeriodStore.write.Goals as goal
 
 pub returns : goal.returns
-returns c = period_put _ _ _ _ _ _ c.args.self c.put_days.ensures c.put_two.ensures c.put_three.ensures c.put_pair.ensures
+unfolding bytes all_bytes bytes_of digits
+returns c = rw (c.put_numbers.ensures, c.from.ensures, c.from-2.ensures)

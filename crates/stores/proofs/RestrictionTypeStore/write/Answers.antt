@@ -1,6 +1,9 @@
 -- `stores::RestrictionTypeStore::write` meets its contract. Assumes nothing.
-use Rattle.stores.proofs.Storing.{type_put}
+-- Written by tools/places.py: change that, then run tools/generate.
+use Rattle.tables.specs.Bytes.{digits, bytes_of}
+use Rattle.stores.specs.Numbers.{bytes, all_bytes}
 use Rattle.stores.proofs.RestrictionTypeStore.write.Goals as goal
 
 pub returns : goal.returns
-returns c = type_put _ _ _ _ c.args.self c.put_days.ensures c.put_head.ensures
+unfolding bytes all_bytes bytes_of digits
+returns c = rw (c.put_numbers.ensures, c.from.ensures, c.from-2.ensures, c.from-3.ensures, c.from-4.ensures)

@@ -1,7 +1,9 @@
 -- `stores::RowStore::write` meets its contract. Assumes nothing.
-use borrow.Author.Rules.{rules}
-use Rattle.stores.proofs.Storing.{row_put}
+-- Written by tools/places.py: change that, then run tools/generate.
+use Rattle.tables.specs.Bytes.{digits, bytes_of}
+use Rattle.stores.specs.Numbers.{bytes, all_bytes}
 use Rattle.stores.proofs.RowStore.write.Goals as goal
 
 pub returns : goal.returns
-returns c = row_put _ _ _ _ _ _ c.args.self c.put_values_6.ensures (search rules) c.put_values_0.ensures c.put_head.ensures
+unfolding bytes all_bytes bytes_of digits
+returns c = rw (c.put_numbers.ensures, c.from.ensures, c.from-2.ensures, c.from-3.ensures, c.from-4.ensures)

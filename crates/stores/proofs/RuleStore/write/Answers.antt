@@ -1,6 +1,9 @@
 -- `stores::RuleStore::write` meets its contract. Assumes nothing.
-use Rattle.stores.proofs.Storing.{rule_put}
+-- Written by tools/places.py: change that, then run tools/generate.
+use Rattle.tables.specs.Bytes.{digits, bytes_of}
+use Rattle.stores.specs.Numbers.{bytes, all_bytes}
 use Rattle.stores.proofs.RuleStore.write.Goals as goal
 
 pub returns : goal.returns
-returns c = rule_put _ _ _ _ _ _ c.args.self _ c.put_days.ensures c.put_two.ensures c.put_one.ensures c.from.ensures c.put_head.ensures
+unfolding bytes all_bytes bytes_of digits
+returns c = rw (c.put_numbers.ensures, c.from.ensures, c.from-2.ensures, c.from-3.ensures, c.from-4.ensures, c.from-5.ensures)

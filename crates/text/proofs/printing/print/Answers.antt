@@ -1,5 +1,5 @@
 -- `text::printing::print` meets its contract.
-use Rattle.text.proofs.Printings.{taken, refusal, with_status}
+use Rattle.text.proofs.Printings.{taken, refusal}
 use Rattle.text.proofs.printing.print.Goals as goal
 
 pub returns-in-Taken : goal.returns-in-Taken
@@ -7,6 +7,3 @@ returns-in-Taken c = search taken
 
 pub returns-in-Refused : goal.returns-in-Refused
 returns-in-Refused c = search refusal
-
-pub returns-in-WithStatus : goal.returns-in-WithStatus
-returns-in-WithStatus c = search with_status

@@ -5,8 +5,8 @@ use Rattle.soundness.proofs.judged.RowJudged.alike.Goals as goal
 pub returns-then-four : goal.returns-then-four
 returns-then-four c = search row_key_no
 
-pub returns-then-front_word : goal.returns-then-front_word
-returns-then-front_word c = search row_front_no
+pub returns-then-seven_after : goal.returns-then-seven_after
+returns-then-seven_after c = search row_front_no
 
 pub returns-then-eight : goal.returns-then-eight
 returns-then-eight c = search row_middle_no

@@ -1,5 +1,6 @@
 -- `writing::bytes::Written::push_plain` meets its contract.
 use Rattle.meaning.specs.Writing.{write}
+use Rattle.shapes.proofs.Choices.{choice_form}
 use Rattle.writing.proofs.FieldTexts.{four_letters, three_letters, number_written}
 use Rattle.writing.proofs.bytes.Written.push_plain.Goals as goal
 
@@ -8,23 +9,7 @@ returns-in-Csd c = rw (number_written c.args.form c.args.n c.in-Csd.is) c.push_n
 
 pub returns-in-Sign : goal.returns-in-Sign
 unfolding write
-returns-in-Sign c = rw c.in-Sign.is c.push_word.ensures
-
-pub returns-in-Kind : goal.returns-in-Kind
-unfolding write
-returns-in-Kind c = rw c.in-Kind.is c.push_word-in-Kind.ensures
-
-pub returns-in-Movement : goal.returns-in-Movement
-unfolding write
-returns-in-Movement c = rw c.in-Movement.is c.push_word-in-Movement.ensures
-
-pub returns-in-Payment : goal.returns-in-Payment
-unfolding write
-returns-in-Payment c = rw c.in-Payment.is c.push_word-in-Payment.ensures
-
-pub returns-in-Wish : goal.returns-in-Wish
-unfolding write
-returns-in-Wish c = rw c.in-Wish.is c.push_word-in-Wish.ensures
+returns-in-Sign c = rw (choice_form c.args.form c.in-Sign.is, ← c.words.ensures.words) c.push_word.ensures
 
 pub returns-in-Transaction : goal.returns-in-Transaction
 unfolding write

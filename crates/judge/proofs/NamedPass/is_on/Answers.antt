@@ -1,7 +1,0 @@
--- `judge::Named::is_on` meets its contract; facts are named, so that a wrong one is refused for certain.
-use Rattle.judge.specs.Stages.{type_applies}
-use Rattle.judge.proofs.NamedPass.is_on.Goals as goal
-
-pub returns : goal.returns
-unfolding type_applies
-returns c = rw (c.covers-current.ensures, c.is_marked-positive.ensures, c.signed_key.ensures, c.is_marked-negative.ensures, c.signed_key-2.ensures, c.passed_over.ensures)

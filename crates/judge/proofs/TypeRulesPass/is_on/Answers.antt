@@ -1,7 +1,0 @@
--- `judge::TypeRules::is_on` meets its contract; facts are named, so that a wrong one is refused for certain.
-use Rattle.judge.specs.Stages.{rule_of_type}
-use Rattle.judge.proofs.TypeRulesPass.is_on.Goals as goal
-
-pub returns : goal.returns
-unfolding rule_of_type
-returns c = rw (c.rule_matches.ensures)

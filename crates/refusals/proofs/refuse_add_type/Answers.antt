@@ -1,6 +1,0 @@
--- `refusals::refuse_add_type` meets its contract. Assumes nothing.
-use Rattle.refusals.proofs.Refuse.{refused_add_type}
-use Rattle.refusals.proofs.refuse_add_type.Goals as goal
-
-pub returns : goal.returns
-returns c = search refused_add_type

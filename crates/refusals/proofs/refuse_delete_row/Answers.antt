@@ -1,6 +1,0 @@
--- `refusals::refuse_delete_row` meets its contract. Assumes nothing.
-use Rattle.refusals.proofs.Refuse.{refused_delete_row}
-use Rattle.refusals.proofs.refuse_delete_row.Goals as goal
-
-pub returns : goal.returns
-returns c = search refused_delete_row

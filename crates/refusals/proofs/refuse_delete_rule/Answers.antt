@@ -1,6 +1,0 @@
--- `refusals::refuse_delete_rule` meets its contract. Assumes nothing.
-use Rattle.refusals.proofs.Refuse.{refused_delete_rule}
-use Rattle.refusals.proofs.refuse_delete_rule.Goals as goal
-
-pub returns : goal.returns
-returns c = search refused_delete_rule

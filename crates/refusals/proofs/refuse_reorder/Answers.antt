@@ -1,6 +1,0 @@
--- `refusals::refuse_reorder` meets its contract. Assumes nothing.
-use Rattle.refusals.proofs.Refuse.{refused_reorder}
-use Rattle.refusals.proofs.refuse_reorder.Goals as goal
-
-pub returns : goal.returns
-returns c = search refused_reorder

@@ -1,6 +1,0 @@
--- `soundness::buckets::period_bucket` meets its contract. Assumes nothing.
-use Rattle.soundness.proofs.BucketWords.{period_bucket_lem}
-use Rattle.soundness.proofs.buckets.period_bucket.Goals as goal
-
-pub returns : goal.returns
-returns c = search period_bucket_lem

@@ -1,6 +1,0 @@
--- `soundness::buckets::rule_bucket` meets its contract. Assumes nothing.
-use Rattle.soundness.proofs.BucketWords.{rule_bucket_lem}
-use Rattle.soundness.proofs.buckets.rule_bucket.Goals as goal
-
-pub returns : goal.returns
-returns c = search rule_bucket_lem

@@ -1,6 +1,0 @@
--- `soundness::buckets::type_bucket_of` meets its contract. Assumes nothing.
-use Rattle.soundness.proofs.BucketWords.{type_bucket_of_lem}
-use Rattle.soundness.proofs.buckets.type_bucket_of.Goals as goal
-
-pub returns-clause-value : goal.returns-clause-value
-returns-clause-value c = search type_bucket_of_lem

@@ -1,8 +1,0 @@
--- `stores::put_four` meets its contract. Assumes nothing.
-use native.Mathlib.Nat.{add_assoc}
-use Rattle.tables.specs.Bytes.{puts, digits}
-use Rattle.stores.proofs.put_four.Goals as goal
-
-pub returns : goal.returns
-unfolding puts digits
-returns c = simp add_assoc (cc)

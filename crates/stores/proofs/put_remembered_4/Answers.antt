@@ -1,7 +1,0 @@
--- `stores::put_remembered_4` meets its contract. Assumes nothing.
-use Rattle.stores.proofs.Storing.{remembered_4_put}
-use Rattle.stores.proofs.put_remembered_4.Goals as goal
-
-pub returns : goal.returns
-returns c =
-    remembered_4_put _ _ _ _ _ _ _ _ _ _ _ _ _ _ c.put_one-4.ensures c.from-4.ensures c.put_one-3.ensures c.from-3.ensures c.put_one-2.ensures c.from-2.ensures c.put_one.ensures c.from.ensures

@@ -1,7 +1,0 @@
--- `stores::put_two` meets its contract. Assumes nothing.
-use Rattle.tables.specs.Bytes.{puts, digits}
-use Rattle.stores.proofs.put_two.Goals as goal
-
-pub returns : goal.returns
-unfolding puts digits
-returns c = cc
