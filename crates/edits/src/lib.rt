@@ -2,11 +2,11 @@
 #![tactic(auto)]
 
 ghost use Rattle.std.specs.Prelude.{◌≡◌, ℕ, List};
-ghost use Rattle.std.proofs.Common.{Bor};
 ghost use Rattle.tables.specs.Table.{place_of};
 ghost use Rattle.records.specs.Said.{row_of};
 ghost use Rattle.commands.specs.Asked.{asked};
 ghost use Rattle.edits.specs.Leaves.{Accepted, Edited};
+ghost use Rattle.edits.specs.Moves.{row_with};
 ghost use Rattle.edits.specs.Edit.{stored, Changed, ChangedEach, ended_type, ended_period, deleted_rule, deleted_row, reordered_rule, edit_in};
 
 use book::{find, is_hit};
@@ -70,16 +70,45 @@ fn delete_row(b: &mut [u8], w: Row)
     change::<Row, _>(b, w.csd, RowAsk::Same(w), |_| Row::default());
 }
 
-// Each record of a depository that is as asked is stored as what f makes of it and of the book as it then is. Not over
-// `places_of`, which would keep the book lent while a place is stored.
-pub fn change_each<P: Record + Store, F: Fn(&[u8], P) -> P>(b: &mut [u8], csd: u8, q: P::Ask, f: F)
-    requires { F.IsAlwaysCallable f }
-    ensures { ChangedEach P.table P.at P.put csd (P.asked q) (λ now x r. (y : Bor (List ℕ)) × ((y.now ≡ now) × F.post f y x r)) b.old P.PLACES b.new }
+// What becomes of a record that a pass over a table meets: a value says it, by the book as it then is. A trait and no
+// closure, of which a public function would have to ask that it can be called.
+pub trait Step {
+    type Record: Record + Store;
+
+    ghost made: { Self → List ℕ → Self.Record → Self.Record };
+
+    fn made(&self, b: &[u8], r: Self::Record) -> Self::Record
+        ensures { result ≡ made self.now b.now r };
+}
+
+// Each record of a depository that is as asked is stored as what the step makes of it and of the book as it then is. Not
+// over `places_of`, which would keep the book lent while a place is stored.
+pub fn change_each<S: Step>(b: &mut [u8], csd: u8, q: <S::Record as Record>::Ask, step: &S)
+    ensures { ChangedEach S.Record.table S.Record.at S.Record.put csd (S.Record.asked q) (λ x r y. y ≡ S.made step.now x r) b.old S.Record.PLACES b.new }
 {
-    for i in 0..P::PLACES {
-        if is_hit::<P>(b, i, csd, q) {
-            let made = f(b, record_at::<P>(b, i));
+    for i in 0..S::Record::PLACES {
+        if is_hit::<S::Record>(b, i, csd, q) {
+            let made = step.made(b, record_at::<S::Record>(b, i));
             put(b, i, made);
+        }
+    }
+}
+
+// A row bears the new sequence of its rule.
+#[derive(Clone, Copy)]
+struct Resequenced {
+    new: u8,
+}
+
+impl Step for Resequenced {
+    type Record = Row;
+
+    ghost made = { λ s b w. row_with s.new w };
+
+    fn made(&self, _b: &[u8], w: Row) -> Row {
+        Row {
+            sequence: self.new,
+            ..w
         }
     }
 }
@@ -89,12 +118,7 @@ fn reorder(b: &mut [u8], csd: u8, key: RuleKey, new: u8)
     ensures { b.new ≡ reordered_rule b.old csd key.number key.object key.sequence new }
 {
     change::<Rule, _>(b, csd, RuleAsk::Named(key), |r| Rule { sequence: new, ..r });
-    change_each::<Row, _>(
-        b,
-        csd,
-        RowAsk::OfRule(key),
-        |_, w| Row { sequence: new, ..w },
-    );
+    change_each(b, csd, RowAsk::OfRule(key), &Resequenced { new });
 }
 
 // ---- Of a command.
