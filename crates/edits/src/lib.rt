@@ -81,8 +81,8 @@ pub trait Step {
         ensures { result ≡ made self.now b.now r };
 }
 
-// Each record of a depository that is as asked is stored as what the step makes of it and of the book as it then is. Not
-// over `places_of`, which would keep the book lent while a place is stored.
+// Each record of a depository that is as asked is stored as what the step makes of it and of the book as it then is.
+// Not over `places_of`, which would keep the book lent while a place is stored.
 pub fn change_each<S: Step>(b: &mut [u8], csd: u8, q: <S::Record as Record>::Ask, step: &S)
     ensures { ChangedEach S.Record.table S.Record.at S.Record.put csd (S.Record.asked q) (λ x r y. y ≡ S.made step.now x r) b.old S.Record.PLACES b.new }
 {
