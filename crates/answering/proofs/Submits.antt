@@ -52,7 +52,7 @@ own_csd c (Some (q, w)) = refl
 same_book : (m : M.Book) → SameBook m m
 same_book m = same_books refl
 
-submitted_unsound : (how : Sent) (b line : List ℕ) (t : Bool) (x : Answer) → t ≡ sound b → not t ≡ true
+pub submitted_unsound : (how : Sent) (b line : List ℕ) (t : Bool) (x : Answer) → t ≡ sound b → not t ≡ true
     → x ≡ Refused UnsoundBook → SubmittedAs how b line x b
 unfolding answer_in
 submitted_unsound how b line t x e f g =
@@ -347,7 +347,7 @@ unfolding after_reading keeps_read taken_sent unless
 untaken_keeps how m (refused r) h = refl
 untaken_keeps how m (asks l v) h = untaken_by m (command_of l v) (refusal_sent (elsewhere how (v ! 0)) m (command_of l v)) h
 
-untaken_left : (how : Sent) (b line : List ℕ) → (answer_in how b line ≡ Taken → ⊥) → left_as_found how b line ≡ true
+pub untaken_left : (how : Sent) (b line : List ℕ) → (answer_in how b line ≡ Taken → ⊥) → left_as_found how b line ≡ true
 unfolding answer_in left_as_found keeps step_sent
 untaken_left how b line h =
     cases (sound b)

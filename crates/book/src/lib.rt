@@ -41,7 +41,8 @@ pub fn is_hit<P: Record>(b: &[u8], i: u16, a: u8, q: P::Ask) -> bool
 }
 
 // How many records of depository a are as asked. The places of others are passed.
-pub fn count<P: Record>(b: &[u8], a: u8, q: P::Ask) -> u16
+#[inline(always)]
+fn counted<P: Record>(b: &[u8], a: u8, q: P::Ask) -> u16
     ensures { (result ≡ count (P.asked q) (list_of P.table a b.now)) × (result ≤ P.PLACES) }
 {
     let mut n: u16 = 0;
@@ -49,6 +50,17 @@ pub fn count<P: Record>(b: &[u8], a: u8, q: P::Ask) -> u16
         n += u16::from(is_hit::<P>(b, k, a, q));
     }
     n
+}
+
+// The same. Where the book has its size, that is said once, and no read of a place asks for it again: who asks often
+// holds the book in a struct, and from there the compiler does not see how long it is.
+pub fn count<P: Record>(b: &[u8], a: u8, q: P::Ask) -> u16
+    ensures { (result ≡ count (P.asked q) (list_of P.table a b.now)) × (result ≤ P.PLACES) }
+{
+    if b.len() == SIZE {
+        return counted::<P>(&b[..SIZE], a, q);
+    }
+    counted::<P>(b, a, q)
 }
 
 // The last place that holds a record of depository a as asked. A free place is depository 0's.

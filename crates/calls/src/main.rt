@@ -146,37 +146,34 @@ fn answer_end(
     }
 }
 
-// Answers until the end of input, or until reading fails. A proved loop has to end, so it counts its turns up to a
-// number that no input uses up.
+// Answers until the end of input, or until reading fails: a failure is named before the call that is begun is answered.
+// A proved loop has to end, so it counts its turns up to a number that no input uses up.
 fn answer_all<R: Read>(
     rt: &(impl Print + Eprint),
     input: &mut R,
+    name: &str,
     book: &mut [u8],
     calls: &mut [u8],
     spaces: &mut Spaces,
-) -> io::Result<()> {
+) {
     let mut held: usize = 0;
     for _ in 0..u64::MAX {
         match input.read(&mut calls[held..]) {
-            Ok(0) => {
-                answer_end(rt, book, calls, held, spaces);
-                return Ok(());
-            }
+            Ok(0) => return answer_end(rt, book, calls, held, spaces),
             Ok(came) => held = answer_piece(rt, book, calls, held + came, spaces),
             Err(why) => {
-                answer_end(rt, book, calls, held, spaces);
-                return Err(why);
+                failed(rt, name, why);
+                return answer_end(rt, book, calls, held, spaces);
             }
         }
     }
-    Ok(())
 }
 
-fn answer_input<R: Read>(rt: &(impl Print + Eprint), input: &mut R) -> io::Result<()> {
+fn answer_input<R: Read>(rt: &(impl Print + Eprint), input: &mut R, name: &str) {
     let mut book: [u8; SIZE] = blank();
     let mut calls: [u8; CALL] = blank();
     let mut spaces = Spaces::new();
-    answer_all(rt, input, &mut book, &mut calls, &mut spaces)
+    answer_all(rt, input, name, &mut book, &mut calls, &mut spaces);
 }
 
 // ---- The files.
@@ -188,7 +185,8 @@ fn failed<D: Display + Drop>(rt: &impl Eprint, what: &str, why: D) {
 
 fn answer_file<R: Files + Print + Eprint>(rt: &R, path: &str) -> io::Result<()> {
     let mut file = File::open(rt, path)?;
-    answer_input(rt, &mut file)
+    answer_input(rt, &mut file, path);
+    Ok(())
 }
 
 // Answers the file that is named.
@@ -222,10 +220,7 @@ fn is_given(rt: &impl Env, i: usize) -> bool {
 
 fn main(rt: HostRuntime) {
     if !is_given(&rt, 1) {
-        if let Err(why) = answer_input(&rt, &mut rt.reader()) {
-            failed(&rt, "standard input", why);
-        }
-        return;
+        return answer_input(&rt, &mut rt.reader(), "standard input");
     }
     for i in 1..usize::MAX {
         if !is_given(&rt, i) {

@@ -3,7 +3,6 @@ ghost use Rattle.std.specs.Prelude.{◌≤◌, length, IfOk};
 
 use crate::{Failure, Source, argument, failed, file_name, write_line, wrong};
 use batches::{MOST, WIDTH, submit_batch};
-use input::read_full;
 use marks::blank;
 use meaning::{Answer, Refusal};
 use places::SIZE;
@@ -17,7 +16,8 @@ use std::rt::Files;
 
 const TEXT: usize = 1048576;
 
-// Reads up to the end of input. A match, since two of the three outcomes of one call are named in different words.
+// Reads up to the end of input. Not by `read_full`, which asks once more where no space is left: a reader may fail at
+// that, and its failure would be told in place of the text's size.
 fn read_whole<R: Read>(
     rt: &impl Eprint,
     source: &mut Source<R>,
@@ -25,13 +25,15 @@ fn read_whole<R: Read>(
 ) -> Result<usize, Failure>
     ensures { IfOk result (λ n. n ≤ length text.new) }
 {
-    match read_full(&mut source.reader, text) {
-        Ok(n) if n == text.len() => {
-            Err(failed(rt, "batch", "the file has more than 1048575 bytes"))
+    let mut held: usize = 0;
+    while held < text.len() {
+        let came = source.read_behind(rt, text, held)?;
+        if came == 0 {
+            return Ok(held);
         }
-        Ok(n) => Ok(n),
-        Err(why) => Err(failed(rt, source.name, why)),
+        held += came;
     }
+    Err(failed(rt, "batch", "the file has more than 1048575 bytes"))
 }
 
 // ---- The answers, each printed as a line.

@@ -26,10 +26,10 @@ pub fn cut(line: &[u8], at: usize) -> usize
 
 // A lent line, and the index where the last field that was read ended: its comma, or the end of the line. By hand and
 // not by `split`: document 01 names a reader that holds the lent line and a position, over a field cutter.
-#[derive(Drop)]
+#[derive(Clone, Copy)]
 pub struct LineReader<'a> {
-    line: &'a [u8],
-    at: usize,
+    pub line: &'a [u8],
+    pub at: usize,
 }
 
 impl<'a> LineReader<'a> {
@@ -56,7 +56,8 @@ impl<'a> Iterator for LineReader<'a> {
             return None;
         }
         let start = self.at + 1;
-        self.at = cut(self.line, start);
-        Some(&self.line[start..self.at])
+        let end = cut(self.line, start);
+        self.at = end;
+        Some(&self.line[start..end])
     }
 }

@@ -1,13 +1,13 @@
 -- What the code's loops and searches over bytes have to do with the lists of the meaning. Each loop has a record, its
 -- invariant: what was found before index i, with what is left from i on, gives the whole.
 use mathlib.Core.Path.{◌≡◌, refl, ap, sym, ◌∙◌}
-use mathlib.Core.Bool.{Bool, true, false, not, cond, ◌&&◌, and-true, and-false}
+use mathlib.Core.Bool.{Bool, true, false, not, cond, ◌&&◌, and_assoc, and-true, and-false}
 use mathlib.Core.List.{List, [], ◌∷◌, map, foldl}
 use Prim.Native.Nat.{ℕ, zero, suc, ◌+◌, ◌*◌, ◌-◌, ◌≤◌, ◌<◌, min}
 use native.Mathlib.Numerals.{add-one}
 use native.Mathlib.Omega.{arith}
 use lib.Dec.{eqb, ltb, leb}
-use lib.ListN.{length, get_or, drop}
+use lib.ListN.{length, get_or, drop, drop_of_length-le}
 use borrow.Author.Tests.{ltb-true, ltb-false, leb-true, leb-false, lt-leb, le-leb}
 use denote.Ref.{Bor}
 use Rattle.std.specs.Prelude.{Option, Some, None}
@@ -26,6 +26,20 @@ pub every_all : (p : ℕ → Bool) (l : List ℕ) → list_all p l ≡ every p l
 unfolding every
 every_all p [] = refl
 every_all p (x ∷ l) = ap (λ b. p x && b) (every_all p l)
+
+-- the same by a loop over indices
+pub record EveryTo (p : ℕ → Bool) (l : List ℕ) (t : Bool) (i : ℕ) : Type 0 where
+  pub left : (t && every p (drop i l)) ≡ every p l
+
+pub every_next : {p : ℕ → Bool} {l : List ℕ} {t t' q : Bool} {i : ℕ} → EveryTo p l t i → i < length l → q ≡ p (get_or l i 0) → t' ≡ (t && q)
+    → EveryTo p l t' (i + 1)
+unfolding every
+every_next {p} {l} {t} {i = i} r h e f =
+    record { left = rw (f, e) (and_assoc t (p (get_or l i 0)) (every p (drop (i + 1) l)) ∙ rw (next l i h) at r.left) }
+
+pub every_end : {p : ℕ → Bool} {l : List ℕ} {t : Bool} {i : ℕ} → EveryTo p l t i → length l ≤ i → t ≡ every p l
+unfolding every
+every_end {l = l} {t} r h = sym (and-true t) ∙ rw (drop_of_length-le l h) at r.left
 
 -- ---- one of a few words
 

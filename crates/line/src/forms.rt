@@ -3,6 +3,7 @@ ghost use Rattle.std.specs.Prelude.{◌-◌, ◌<◌, ◌≤◌, min, ◌≡◌,
 ghost use Rattle.meaning.specs.Text.{word, decimal};
 ghost use Rattle.meaning.specs.Forms.{is_number, is_code, read, up_to, code, day, letters, one_of};
 ghost use Rattle.shapes.specs.Table.{plain_form, field_of};
+ghost use Rattle.shapes.specs.Numbered.{form_at};
 
 use basics::byte_at;
 use days::is_day;
@@ -141,4 +142,11 @@ pub fn field_value(f: &[u8], field: Field) -> Option<u32>
             plain_value(f, form)
         }
     }
+}
+
+// The same of a field by the number of its form.
+pub fn form_value(f: &[u8], form: u8) -> Option<u32>
+    ensures { result ≡ read (form_at form) f.now }
+{
+    field_value(f, Field::from(form))
 }

@@ -7,6 +7,7 @@ mod reading;
 ghost use Rattle.std.specs.Prelude.{◌≡◌};
 ghost use Rattle.meaning.specs.Fields.{allowed};
 
+pub use forms::form_value;
 pub use reading::{Line, read_line};
 
 // Only digits, capital ASCII letters and commas occur.

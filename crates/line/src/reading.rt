@@ -2,8 +2,8 @@
 // refusals).
 ghost use Rattle.std.specs.Prelude.{◌≡◌, [], ◌∷◌, drop, Some};
 ghost use Rattle.std.specs.Option.{option_map};
-ghost use Rattle.tables.specs.Count.{has};
-ghost use Rattle.meaning.specs.Fields.{within, well_made, fields};
+ghost use Rattle.tables.specs.Count.{has, every};
+ghost use Rattle.meaning.specs.Fields.{within, allowed, well_made, fields};
 ghost use Rattle.meaning.specs.Forms.{shapes, has_letter, first_shape};
 ghost use Rattle.meaning.specs.Reading.{read_all, by_fields, by_shape, numbers_read};
 ghost use Rattle.fields.specs.Cut.{more};
@@ -104,11 +104,23 @@ fn is_length(len: usize) -> bool
     (1..=80).contains(&len)
 }
 
+// Whether each byte is allowed. A loop, and not `all`, which ends at the first that is not: nearly every line has none,
+// and by `all` a line of 80 bytes that is refused 2 to 4 took 1.4 to 2.2 times as long.
+fn all_allowed(line: &[u8]) -> bool
+    ensures { result ≡ every allowed line.now }
+{
+    let mut good = true;
+    for &c in line {
+        good &= allowed(c);
+    }
+    good
+}
+
 // 1 to 80 bytes, each allowed. The length comes first, so that no more than 80 bytes are looked at.
 fn well_made(line: &[u8]) -> bool
     ensures { result ≡ well_made line.now }
 {
-    is_length(line.len()) && line.iter().all(|&c| allowed(c))
+    is_length(line.len()) && all_allowed(line)
 }
 
 // Refusals 2 to 5, or the letter and the numbers. Whether the numbers together are wrong (5 too) is not tested here.

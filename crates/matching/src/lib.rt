@@ -69,7 +69,6 @@ impl Pass for Codes {
     ghost entry = { λ s p m. with_flag (period_key p % kinds) m };
 
     // A period of the question's party, account or security that covers the day.
-    #[tactic(auto, unfolding(crate::specs::MatchedRows::borne_by))]
     fn entry(&self, p: Period, t: &[u8]) -> Option<(usize, u8)> {
         let k = key::<KINDS>(p.code, p.kind);
         let at = k / Four::N;

@@ -60,7 +60,6 @@ impl Pass for BegunTypes {
     ghost key = { λ s t. first_key s.q t };
 
     // A type of the question's object that does not begin after the day.
-    #[tactic(auto, unfolding(crate::specs::NewRules::has_begun))]
     fn entry(&self, t: RestrictionType, _t: &[u8]) -> Option<(usize, u8)> {
         let begun = t.object == self.q.object && t.first <= self.q.day;
         begun.then_some((begun_key(t.number, begun_when(self.q, t)), 1))

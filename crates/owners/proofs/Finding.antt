@@ -135,6 +135,12 @@ pub eight_passed : (b : List ℕ) (start width a i at w r : ℕ)
     → (r ≤ 8) × Passed (owned b start width a) i (i + r)
 eight_passed b start width a i at w r e f s = eight_passed_at b start width a i at r (rw s at e) f
 
+-- ---- what `next` asks of a place: x is read at the address of place k
+
+pub own_place : (b : List ℕ) (start width a k at x : ℕ) → x ≡ byte_at b at → at ≡ start + k * width
+    → eqb x a ≡ owned b start width a k
+own_place b start width a k at x e f = ap (λ y. eqb y a) (e ∙ ap (byte_at b) f)
+
 -- ---- of a table: a place's first byte is its depository
 
 module _ {P : Type 0} (csd : P → ℕ) (at : List ℕ → ℕ → P) (from : List ℕ → P) (widths : List Width) (start width : ℕ)

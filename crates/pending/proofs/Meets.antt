@@ -1,5 +1,5 @@
 -- What the code makes of one instruction is what the written meaning does.
-use Rattle.std.proofs.Common.{ℕ, ◌≡◌, refl, ap, ap₂, sym, ◌∙◌, Bool, true, false, cond, List, Option, Some, None, ne_eqb, replicate}
+use Rattle.std.proofs.Common.{ℕ, ◌≡◌, refl, ap, ap₂, sym, ◌∙◌, Bool, true, false, cond, List, Some, None, Result, Ok, Err, is_err, ne_eqb, replicate}
 use mathlib.Core.Path.{fun_ext}
 use Rattle.tables.specs.Keyed.{marked}
 use Rattle.meaning.specs.Records as M
@@ -22,18 +22,32 @@ use Rattle.judge.specs.declared.Scope.{Scope}
 use Rattle.judge.proofs.VerdictRight.{judged_right, judged_within_lem}
 use Rattle.judge.proofs.ExemptedRight.{exempted_within_lem}
 use Rattle.judge.proofs.Starting.{whole_judged, whole_exempted, at_start_lem}
-use Rattle.pending.specs.OnBytes.{asking_at, fresh_at, kept_with, kept_by, met_by, entered_by, scope_at, started_by, released_at, left_of, Remembering, Entered}
+use Rattle.pending.specs.OnBytes.{asking_at, fresh_at, kept_with, kept_by, kept_unless, met_by, entered_by, scope_at, started_by, released_at, left_of, either_of, Remembering, Entered}
 
 -- ---- what is left, with its days and types
 
-pub met_said : (k : Kept) (day : ℕ) (v : Verdict) (exempt : ℕ → Bool) → Remembering k
+kept_said : (k : Kept) (day : ℕ) (v : Verdict) (exempt : ℕ → Bool) → Remembering k
     → instruction_of (kept_by k day v exempt) ≡ met v exempt day (instruction_of k)
 unfolding kept_by met instruction_of
-met_said k day v exempt r = rw (types_put k.remembered exempt r.long r.clear)
+kept_said k day v exempt r = rw (types_put k.remembered exempt r.long r.clear)
 
-left_by : (t : Bool) (k : Kept) → left_of (cond t None (Some k)) ≡ cond t None (Some (instruction_of k))
+left_by : (t : Bool) (k : Kept) → left_of (kept_unless t k) ≡ cond t None (Some (instruction_of k))
 left_by true k = refl
 left_by false k = refl
+
+rejects_by : (t : Bool) (k : Kept) → is_err (kept_unless t k) ≡ t
+rejects_by true k = refl
+rejects_by false k = refl
+
+either_by : (t : Bool) (k : Kept) → either_of (kept_unless t k) ≡ k
+either_by true k = refl
+either_by false k = refl
+
+pub met_said : (k : Kept) (day : ℕ) (v : Verdict) (exempt : ℕ → Bool) → Remembering k
+    → instruction_of (either_of (met_by k day v exempt)) ≡ met v exempt day (instruction_of k)
+unfolding met_by
+met_said k day v exempt r =
+    ap instruction_of (either_by (rejected v) (kept_by k day v exempt)) ∙ kept_said k day v exempt r
 
 -- ---- S
 
@@ -51,14 +65,16 @@ fresh_said reference q = rw none_remembered
 
 pub entered_right : (b : List ℕ) (reference : ℕ) (q : Question) → sound_lone (lone_book q.csd b) ≡ true
     → Entered (lone_book q.csd b) reference (question_of q) (entered_by b reference q)
-unfolding entered_by met_by entered
+unfolding entered_by entered met_by
 entered_right b reference q z =
-    left_by (rejected (judged_by b q)) (kept_by (fresh_at reference q) q.day (judged_by b q) (exempted_within b q whole))
-    ∙ ap (λ x. cond (rejected (judged_by b q)) None (Some x))
-    (met_said (fresh_at reference q) q.day (judged_by b q) (exempted_within b q whole) (fresh_remembers reference q)
-    ∙ ap (met (judged_by b q) (exempted_within b q whole) q.day) (fresh_said reference q))
-    ∙ ap₂ (λ x e. cond (rejected x) None (Some (met x e q.day (fresh reference (question_of q))))) (judged_right b q z)
-    (whole_exempted b q z)
+    let v = judged_right b q z in
+    record {
+      rejected = rejects_by (rejected (judged_by b q)) (kept_by (fresh_at reference q) q.day (judged_by b q) (exempted_within b q whole))
+          ∙ ap (λ x. rejected x) v;
+      kept = met_said (fresh_at reference q) q.day (judged_by b q) (exempted_within b q whole) (fresh_remembers reference q)
+          ∙ ap (met (judged_by b q) (exempted_within b q whole) q.day) (fresh_said reference q)
+          ∙ ap₂ (λ x e. met x e q.day (fresh reference (question_of q))) v (whole_exempted b q z);
+    }
 
 -- ---- W
 
@@ -88,7 +104,7 @@ module _ (b : List ℕ) (k : Kept) (day : ℕ) (z : sound_lone (lone_book k.csd 
       left_by (rejected (judged_within b (asking_at k day) (scope_at k) (type_bits k.remembered)))
       (kept_by k day (judged_within b (asking_at k day) (scope_at k) (type_bits k.remembered)) (exempted_within b (asking_at k day) (scope_at k)))
       ∙ ap (λ x. cond (rejected (judged_within b (asking_at k day) (scope_at k) (type_bits k.remembered))) None (Some x))
-      (met_said k day (judged_within b (asking_at k day) (scope_at k) (type_bits k.remembered)) (exempted_within b (asking_at k day) (scope_at k)) r)
+      (kept_said k day (judged_within b (asking_at k day) (scope_at k) (type_bits k.remembered)) (exempted_within b (asking_at k day) (scope_at k)) r)
       ∙ ap₂ (λ v e. cond (rejected v) None (Some (met v e day i))) verdict_right exempted_right
 
 -- ---- L
@@ -99,17 +115,16 @@ released_right hold k = refl
 
 -- ---- what the functions return
 
-pub after_rejected : (k : Kept) (day : ℕ) (v : Verdict) (exempt : ℕ → Bool) (t : Bool) → t ≡ rejected v → t ≡ true
-    → None ≡ met_by k day v exempt
-unfolding met_by
-after_rejected k day v exempt t e h = rw (sym e ∙ h)
+module _ (k : Kept) (day validating holding : ℕ) (v : Verdict) (marks remembered : List ℕ) (t : Bool)
+    (types : remembered ≡ with_types k.remembered (marked marks)) (held : holding ≡ since day k.holding v.party)
+    (validated : validating ≡ since day k.validating v.validation) (e : t ≡ rejected v) where
+  pub after_rejected : t ≡ true → Err (kept_with k validating holding remembered) ≡ met_by k day v (marked marks)
+  unfolding met_by kept_by
+  after_rejected h = rw (sym e ∙ h, types, held, validated)
 
-pub after_by : (k : Kept) (day validating holding : ℕ) (v : Verdict) (marks remembered : List ℕ) (t : Bool)
-    → remembered ≡ with_types k.remembered (marked marks) → holding ≡ since day k.holding v.party
-    → validating ≡ since day k.validating v.validation → t ≡ rejected v → t ≡ false
-    → Some (kept_with k validating holding remembered) ≡ met_by k day v (marked marks)
-unfolding met_by kept_by
-after_by k day validating holding v marks remembered t e f g i h = rw (sym i ∙ h, e, f, g)
+  pub after_kept : t ≡ false → Ok (kept_with k validating holding remembered) ≡ met_by k day v (marked marks)
+  unfolding met_by kept_by
+  after_kept h = rw (sym e ∙ h, types, held, validated)
 
 -- L, by the processing of the hold
 pub released_by : (k r : Kept) (hold : ℕ) → r ≡ released_at hold k
@@ -120,7 +135,7 @@ pub other_hold : (k : Kept) (hold : ℕ) → (hold ≡ validation_hold → ⊥) 
 unfolding released_at
 other_hold k hold a d = rw (ne_eqb hold validation_hold a, ne_eqb hold party_hold d)
 
-module _ (b : List ℕ) (x : Option Kept) (v : Verdict) (exempt : ℕ → Bool) where
+module _ (b : List ℕ) (x : Result Kept Kept) (v : Verdict) (exempt : ℕ → Bool) where
   pub entered_by_lem : (reference : ℕ) (q : Question) (k : Kept) (s : Scope) (passed : ℕ → Bool)
       → x ≡ met_by k q.day v exempt → k ≡ fresh_at reference q → v ≡ judged_within b q s passed
       → exempt ≡ exempted_within b q s → s ≡ whole → passed ≡ none_passed

@@ -1,6 +1,6 @@
 -- What S, W and L make of one kept instruction, by the bytes of the lent book; and what that is in the written meaning.
 -- Each definition is of any bytes. Assumes nothing.
-use Rattle.std.specs.Prelude.{ℕ, ◌≡◌, Bool, true, not, cond, List, eqb, length, replicate, Option, Some, None}
+use Rattle.std.specs.Prelude.{ℕ, ◌≡◌, Bool, true, not, cond, List, eqb, length, replicate, Option, Some, None, Result, Ok, Err, is_err}
 use Rattle.meaning.specs.Records as M
 use Rattle.meaning.specs.Records.{validation_hold, party_hold}
 use Rattle.meaning.specs.Judging.{rejected, judged}
@@ -73,13 +73,16 @@ unfoldable pub kept_by : Kept → ℕ → Verdict → (ℕ → Bool) → Kept
 kept_by k day v exempt =
     kept_with k (since day k.validating v.validation) (since day k.holding v.party) (with_types k.remembered exempt)
 
--- if anything is left
-unfoldable pub met_by : Kept → ℕ → Verdict → (ℕ → Bool) → Option Kept
+-- what is kept, or what an instruction that is rejected would be left as
+abbrev pub kept_unless : Bool → Kept → Result Kept Kept
+kept_unless t k = cond t (Err k) (Ok k)
+
+unfoldable pub met_by : Kept → ℕ → Verdict → (ℕ → Bool) → Result Kept Kept
 unfolding kept_by
-met_by k day v exempt = cond (rejected v) None (Some (kept_by k day v exempt))
+met_by k day v exempt = kept_unless (rejected v) (kept_by k day v exempt)
 
 -- S is judged as a question is
-unfoldable pub entered_by : List ℕ → ℕ → Question → Option Kept
+unfoldable pub entered_by : List ℕ → ℕ → Question → Result Kept Kept
 unfolding met_by
 entered_by b reference q = met_by (fresh_at reference q) q.day (judged_by b q) (exempted_within b q whole)
 
@@ -88,7 +91,7 @@ abbrev pub scope_at : Kept → Scope
 scope_at k = record { fresh = true; validating = not (eqb k.validating 0); holding = not (eqb k.holding 0) }
 
 -- W, of one instruction
-unfoldable pub started_by : List ℕ → Kept → ℕ → Option Kept
+unfoldable pub started_by : List ℕ → Kept → ℕ → Result Kept Kept
 unfolding met_by
 started_by b k day =
     met_by k day (judged_within b (asking_at k day) (scope_at k) (type_bits k.remembered))
@@ -102,15 +105,21 @@ released_at hold k =
 -- ---- in the written meaning
 
 -- what is left of an instruction, if anything
-abbrev pub left_of : Option Kept → Option M.Kept
-left_of None = None
-left_of (Some k) = Some (instruction_of k)
+abbrev pub left_of : Result Kept Kept → Option M.Kept
+left_of (Ok k) = Some (instruction_of k)
+left_of (Err k) = None
+
+-- with its holds and memory, whether it is rejected or not
+abbrev pub either_of : Result Kept Kept → Kept
+either_of (Ok k) = k
+either_of (Err k) = k
 
 -- thirteen bytes, of which no bit is on that is no type's, as in every sound record
 pub record Remembering (k : Kept) : Type 0 where
   pub long : length k.remembered ≡ 13
   pub clear : spare_clear k.remembered ≡ true
 
--- what S keeps: nothing of a question that is rejected
-abbrev pub Entered : M.Book → ℕ → M.Question → Option Kept → Type 0
-Entered m reference q r = left_of r ≡ cond (rejected (judged m q)) None (Some (entered m reference q))
+-- what S answers and keeps; of a question that is rejected too, what would be kept
+pub record Entered (m : M.Book) (reference : ℕ) (q : M.Question) (r : Result Kept Kept) : Type 0 where
+  pub rejected : is_err r ≡ rejected (judged m q)
+  pub kept : instruction_of (either_of r) ≡ entered m reference q

@@ -67,28 +67,30 @@ fn since(day: u32, before: u32, d: Option<Deciding>) -> u32
     if d.is_none() { before } else { day }
 }
 
-// What is left of an instruction by what was found on it, unless it is rejected: each hold that is put on bears the
-// day, and the types exempted are remembered with those that were.
-fn after(k: Kept, day: u32, found: Judgement) -> Option<Kept>
+// What is left of an instruction by what was found on it: each hold that is put on bears the day, and the types
+// exempted are remembered with those that were. Ok where it is kept; Err is what one that is rejected would be left as.
+fn after(k: Kept, day: u32, found: Judgement) -> Result<Kept, Kept>
     ensures { result ≡ met_by k day found.verdict (marked found.exempted) }
 {
     let v = found.verdict;
-    if v.rejection.is_some() {
-        return None;
-    }
     let validating = since(day, k.validating, v.validation);
     let holding = since(day, k.holding, v.party);
     let remembered = with_types(k.remembered, found.exempted);
-    Some(Kept {
+    let left = Kept {
         validating,
         holding,
         remembered,
         ..k
-    })
+    };
+    if v.rejection.is_some() {
+        return Err(left);
+    }
+    Ok(left)
 }
 
-// S: the instruction is judged as a question is, and what is kept of it; a rejected one is not.
-pub fn enter(book: &[u8], reference: u32, q: Question) -> Option<Kept>
+// S: the instruction is judged as a question is. Ok is what is kept of it; Err is what one that is rejected, and so not
+// kept, would be left as.
+pub fn enter(book: &[u8], reference: u32, q: Question) -> Result<Kept, Kept>
     ensures by_bytes { result ≡ entered_by book.now reference q }
     ensures meant { sound_lone (lone_book q.csd book.now) ≡ true → Entered (lone_book q.csd book.now) reference (question_of q) result }
 {
@@ -96,9 +98,9 @@ pub fn enter(book: &[u8], reference: u32, q: Question) -> Option<Kept>
     after(fresh(reference, q), q.day, found)
 }
 
-// W, of one kept instruction: it meets the rules that are new on the day, of the types that are not passed over; a
-// rejected one is cancelled.
-pub fn start(book: &[u8], k: Kept, day: u32) -> Option<Kept>
+// W, of one kept instruction: it meets the rules that are new on the day, of the types that are not passed over. Ok is
+// what is left of it; Err is what one that is rejected, and so cancelled, would be left as.
+pub fn start(book: &[u8], k: Kept, day: u32) -> Result<Kept, Kept>
     ensures by_bytes { result ≡ started_by book.now k day }
     ensures meant { sound_lone (lone_book k.csd book.now) ≡ true → Remembering k → left_of result ≡ started (lone_book k.csd book.now) day (instruction_of k) }
 {

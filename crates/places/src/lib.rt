@@ -51,11 +51,19 @@ pub trait Place: Copy {
     ghost first: { (b : List ℕ) (a : ℕ) → csd (from (numbers widths b a 0)) ≡ number one b a 0 };
 }
 
-// The address of place i.
+// The address of place i of a table that starts at an address and has places of a width.
+#[inline(always)]
+pub fn address_of(start: u16, width: u8, i: u16) -> u32
+    ensures { result ≡ start + i * width }
+{
+    u32::from(start) + u32::from(i) * u32::from(width)
+}
+
+// The address of place i of a table of the book.
 pub fn address<P: Place>(i: u16) -> u32
     ensures { result ≡ P.START + i * P.WIDTH }
 {
-    u32::from(P::START) + u32::from(i) * u32::from(P::WIDTH)
+    address_of(P::START, P::WIDTH, i)
 }
 
 // The record at place i. It is put into its callers' loops, as what it calls: as a call it reads every field, where a

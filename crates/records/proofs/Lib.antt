@@ -1,4 +1,5 @@
 pub mod Ten
+pub mod Differences
 pub mod Filled
 pub mod Meets
 pub mod Nobody

@@ -1,5 +1,6 @@
 pub mod Said
 pub mod Criteria
+pub mod Values
 pub mod Keyed
 pub mod Asks
 pub mod Free

@@ -12,6 +12,7 @@ ghost use Rattle.meaning.specs.Refusals.{outside};
 ghost use Rattle.meaning.specs.Pending.{held_since};
 ghost use Rattle.records.specs.Said.{type_of, rule_of, row_of, period_of, instruction_of};
 ghost use Rattle.records.specs.Criteria.{belongs, agrees, filled_count};
+ghost use Rattle.records.specs.Values.{first_difference};
 ghost use Rattle.records.specs.Keyed.{type_key, rule_key, row_key, period_key};
 ghost use Rattle.records.specs.Tables.{of_types, of_rules, of_rows, of_periods, table, kept};
 ghost use Rattle.records.specs.Asks.{type_meets, rule_meets, row_meets, period_meets, instruction_meets, type_all, rule_all, row_all, period_all, instruction_all};
@@ -310,6 +311,20 @@ impl Record for Rule {
     fn any() -> RuleAsk {
         RuleAsk::Any
     }
+}
+
+// The lowest index at which two rows' values differ, 10 where they are the same. Rows are compared by `==`, which tells
+// only whether they are the same; for an order of rows by their values.
+pub fn first_difference(a: [u32; 10], b: [u32; 10]) -> u8
+    ensures { result ≡ first_difference a b }
+{
+    for i in 0..10u8 {
+        let k = i as usize;
+        if a[k] != b[k] {
+            return i;
+        }
+    }
+    10
 }
 
 #[tactic(auto, unfolding(crate::specs::Asks::row_meets, crate::specs::Said::row_of, meaning::specs::Keys::of_rule))]

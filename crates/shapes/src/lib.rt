@@ -2,6 +2,8 @@
 // after it. Lines are read and written by it.
 #![tactic(auto)]
 
+mod numbered;
+
 ghost use Rattle.std.specs.Prelude.{◌≡◌, ◌≤◌, length, map};
 ghost use Rattle.meaning.specs.Forms.{letter_byte};
 ghost use Rattle.shapes.specs.Table.{plain_form, words_of, field_of, forms_of, row_of};
@@ -11,6 +13,7 @@ use Form::{
     Code, Criteria, Csd, Currency, Day, Kind, Movement, Number, Object, PartyType, Payment,
     Processing, Sequence, Sign, Transaction, TypeNumber, Wish,
 };
+pub use numbered::{form_count, form_number, shape_letter};
 
 // ---- the forms of fields
 

@@ -179,15 +179,15 @@ pub fn is_sound(b: &[u8]) -> bool
         return false;
     }
     let book = Book { bytes: b };
-    let mut types = Seen::none();
-    if !all::<RestrictionType>(book, &(), &mut types) {
+    let types = &mut Seen::none();
+    if !all::<RestrictionType>(book, &(), types) {
         return false;
     }
-    let mut rules = Seen::none();
-    if !all::<Rule>(book, &types, &mut rules) {
+    let rules = &mut Seen::none();
+    if !all::<Rule>(book, types, rules) {
         return false;
     }
-    if !all::<Row>(book, &rules, &mut Seen::none()) {
+    if !all::<Row>(book, rules, &mut Seen::none()) {
         return false;
     }
     all::<Period>(book, &(), &mut Seen::none())

@@ -4,7 +4,7 @@ use mathlib.Core.Path.{◌≡◌, refl, ap, sym, ◌∙◌}
 use mathlib.Core.Bool.{Bool, true, false, cond}
 use mathlib.Core.List.{List, [], ◌∷◌}
 use mathlib.Core.Logic.{inr}
-use Rattle.std.specs.Prelude.{Option, Some, None}
+use Rattle.std.specs.Prelude.{Some, Result}
 use native.Mathlib.Omega.{arith}
 use lib.ListN.{length, get_or}
 use borrow.Author.Tests.{eq-eqb, ne_eqb}
@@ -37,7 +37,7 @@ use Rattle.book.proofs.Lists.{lone_list, book_equal}
 use Rattle.meaning.specs.declared.Verdict.{Verdict}
 use Rattle.judge.specs.Within.{judged_within, exempted_within}
 use Rattle.memory.specs.Remembered.{types_in, type_bits}
-use Rattle.pending.specs.OnBytes.{asking_at, scope_at, kept_by, met_by, started_by, left_of, Remembering}
+use Rattle.pending.specs.OnBytes.{asking_at, scope_at, kept_by, kept_unless, met_by, started_by, left_of, Remembering}
 use Rattle.pending.proofs.Meets.{started_right}
 use Rattle.records.specs.Tables.{kept}
 use Rattle.starting.specs.Days.{instructions_of, start_step, start_day, Ready, StartsDay}
@@ -97,7 +97,7 @@ module _ (csd day : ℕ) (b : List ℕ) where
       i = instruction_at b k
 
       -- what was found there, over the book as it is when the place is reached, and what is left if it is not rejected
-      abbrev found : Option Kept
+      abbrev found : Result Kept Kept
       found = started_by (reached k) i day
 
       abbrev v : Verdict
@@ -106,7 +106,7 @@ module _ (csd day : ℕ) (b : List ℕ) where
       abbrev left : Kept
       left = kept_by i day v (exempted_within (reached k) (asking_at i day) (scope_at i))
 
-      found_is : found ≡ cond (rejected v) None (Some left)
+      found_is : found ≡ kept_unless (rejected v) left
       unfolding started_by met_by
       found_is = refl
 
@@ -173,8 +173,8 @@ module _ (csd day : ℕ) (b : List ℕ) where
           (λ e. rw (e, eq-eqb left.csd csd left_csd) (ap_left e)))
         where
           ap_left : {t : Bool} → rejected v ≡ t
-              → left_of (cond t None (Some left)) ≡ started (lone_book csd b) day (instruction_of i)
-          ap_left e = ap (λ t. left_of (cond t None (Some left))) (sym e) ∙ sym (ap left_of found_is) ∙ found_right
+              → left_of (kept_unless t left) ≡ started (lone_book csd b) day (instruction_of i)
+          ap_left e = ap (λ t. left_of (kept_unless t left)) (sym e) ∙ sym (ap left_of found_is) ∙ found_right
 
       -- and no other's
       made_own : (a : ℕ) → 1 ≤ a → (csd ≡ a → ⊥) → (start_step day (reached k) i).csd ≡ a → ⊥

@@ -3,6 +3,8 @@ use Prim.Native.Nat.{ℕ}
 use mathlib.Core.Path.{◌≡◌, refl, ap, ◌∙◌}
 use mathlib.Core.Bool.{true}
 use mathlib.Core.List.{List}
+use Rattle.std.specs.Prelude.{Result}
+use Rattle.std.specs.Result.{result_unwrap_or}
 use lib.ListN.{length}
 use lib.Dec.{eqb}
 use borrow.Author.Tests.{eqb-true}
@@ -11,7 +13,7 @@ use Rattle.tables.specs.Table.{Lies}
 use Rattle.tables.specs.Sweep.{sweep_at, sweep_to}
 use Rattle.tables.proofs.Counts.{ands, cases}
 use Rattle.tables.proofs.Swept.{swept_size}
-use Rattle.places.specs.Layout.{instruction_places, instruction_numbers, instruction_at, put_instruction}
+use Rattle.places.specs.Layout.{instruction_places, instruction_numbers, instruction_at, put_instruction, zero_instruction}
 use Rattle.places.specs.declared.Kept.{Kept}
 use Rattle.records.specs.Free.{all_zero}
 use Rattle.records.specs.Tables.{kept}
@@ -19,7 +21,15 @@ use Rattle.records.specs.Asks.{instruction_meets}
 use Rattle.records.specs.declared.InstructionAsk.TheVariants as Instructions
 use Rattle.edits.specs.Edit.{ChangedAt, ChangedEach}
 use Rattle.edits.proofs.Does.{each_by}
+use Rattle.pending.specs.OnBytes.{started_by}
 use Rattle.starting.specs.Days.{start_step, start_day}
+
+-- ---- what the step makes of an instruction
+
+pub made_by : (b : List ℕ) (day : ℕ) (k z x : Kept) (r : Result Kept Kept) → x ≡ result_unwrap_or r z → z ≡ zero_instruction
+    → r ≡ started_by b k day → x ≡ start_step day b k
+unfolding start_step
+made_by b day k z x r e f g = rw (e, f, g)
 
 -- ---- what the pass stores
 

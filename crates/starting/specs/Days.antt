@@ -1,6 +1,7 @@
 -- W over the places of kept instructions, which stand behind the book of today (docs/LAYOUT.md). Stated here, proved in
 -- proofs/Left. Assumes nothing.
-use Rattle.std.specs.Prelude.{ℕ, ◌≤◌, ◌<◌, ◌≡◌, true, List, length, Option, unwrap_or}
+use Rattle.std.specs.Prelude.{ℕ, ◌≤◌, ◌<◌, ◌≡◌, true, List, length, Result}
+use Rattle.std.specs.Result.{result_unwrap_or}
 use Rattle.tables.specs.Count.{every, sift}
 use Rattle.tables.specs.Bytes.{byte_at}
 use Rattle.tables.specs.Table.{end, list_of}
@@ -20,8 +21,8 @@ unfoldable pub instructions_of : ℕ → List ℕ → List M.Kept
 instructions_of a b = list_of kept a b
 
 -- a rejection at W cancels the instruction: its place is free
-abbrev pub place_after : Option Kept → Kept
-place_after r = unwrap_or r zero_instruction
+abbrev pub place_after : Result Kept Kept → Kept
+place_after r = result_unwrap_or r zero_instruction
 
 -- what W stores at the place of an instruction
 unfoldable pub start_step : ℕ → List ℕ → Kept → Kept

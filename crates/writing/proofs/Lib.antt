@@ -1,4 +1,5 @@
 pub mod Texts
+pub mod InSpace
 pub mod FieldTexts
 pub mod LineTexts
 pub mod Widths

@@ -17,6 +17,9 @@ use Rattle.meaning.proofs.Numerals.{numeral_one, numeral_more}
 use Rattle.meaning.proofs.Shapes.{Each}
 use Rattle.shapes.specs.declared.Shape.{Shape as RowName}
 use Rattle.shapes.specs.Table.{row_of}
+use Rattle.shapes.specs.Names.{row_named}
+use Rattle.shapes.specs.Numbered.{shape_at}
+use Rattle.shapes.proofs.NumberRule.{row_of_named}
 use Rattle.shapes.proofs.TableRule.{each_row, letter_text_lem}
 use Rattle.tables.specs.Count.{every}
 use Rattle.writing.specs.Written.{space}
@@ -130,6 +133,10 @@ right_fits p ns e =
     let f = leb-true (1 + total (row_of p).forms) space (each_row fitting all_fit last_fits p) in
     rw (letter_text_lem p) (omega (arith, f, fields_short (row_of p).forms ns e))
 
+-- The same of a row by its number, whatever the number.
+pub right_fits_at : (p : ℕ) (ns : List ℕ) → holds_all (shape_at p).forms ns ≡ true → length (written (shape_at p) ns) ≤ space
+right_fits_at p = rw (row_of_named p) at (right_fits (row_named p))
+
 fields_long : (φs : List Form) (ns : List ℕ) → holds_all φs ns ≡ true → length φs ≤ length (write_all φs ns)
 unfolding holds_all write_all
 fields_long [] ns e = omega arith
@@ -142,3 +149,6 @@ fields_long (φ ∷ φs) (n ∷ ns) e =
 pub right_long : (p : RowName) (ns : List ℕ) → holds_all (row_of p).forms ns ≡ true → length (row_of p).forms < length (written (row_of p) ns)
 unfolding written
 right_long p ns e = rw (letter_text_lem p) (omega (arith, fields_long (row_of p).forms ns e))
+
+pub right_long_at : (p : ℕ) (ns : List ℕ) → holds_all (shape_at p).forms ns ≡ true → length (shape_at p).forms < length (written (shape_at p) ns)
+right_long_at p = rw (row_of_named p) at (right_long (row_named p))

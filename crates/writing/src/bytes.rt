@@ -1,26 +1,45 @@
 // Bytes, texts and numbers.
-ghost use Rattle.std.specs.Prelude.{◌+◌, ◌<◌, ◌≤◌, ◌≡◌, List, ℕ, [], length};
+ghost use Rattle.std.specs.Prelude.{◌+◌, ◌<◌, ◌≤◌, ◌≡◌, [], length, ltb};
 ghost use Rattle.meaning.specs.Text.{numeral};
 ghost use Rattle.meaning.specs.Printing.{listed};
 ghost use Rattle.writing.specs.Written.{space, added, added_all};
 
-use arrayvec::ArrayVec;
 use std::marker::Model;
 
 // The longest line has 80 bytes.
 pub const SPACE: usize = 80;
 
-// What is written: bytes in a fixed space. What does not fit is left out.
-#[derive(Drop)]
+// What is written: bytes in a fixed space, and how many they are. What does not fit is left out. Not an ArrayVec, which
+// is no Copy.
+#[derive(Clone, Copy)]
 pub struct Written {
-    bytes: ArrayVec<u8, SPACE>,
+    bytes: [u8; SPACE],
+    len: usize,
 }
 
-// A clause sees the bytes.
+// A clause sees the bytes in front. Zeros are behind them, so these give the fields back.
 impl Model for Written {
+    ghost use Rattle.std.specs.Prelude.{List, ℕ, length, take};
+    ghost use Rattle.tables.specs.Padded.{padded};
+
     ghost Value = { List ℕ };
 
-    ghost view = { λ w. w.bytes.items };
+    ghost use Rattle.writing.specs.Space.{ZerosBehind, gives_back};
+
+    ghost view = { λ w. take w.len w.bytes };
+
+    ghost invariant = { ZerosBehind };
+
+    ghost inverse = { λ t. record { bytes = padded 80 t; len = length t } };
+
+    ghost inverse_ok = { gives_back };
+}
+
+// Whether a byte more fits behind so many.
+fn has_room(len: usize) -> bool
+    ensures { result ≡ ltb len space }
+{
+    len < SPACE
 }
 
 fn digit(n: u32) -> u8
@@ -35,7 +54,8 @@ impl Written {
         ensures { result ≡ [] }
     {
         Written {
-            bytes: ArrayVec::new(),
+            bytes: [0; SPACE],
+            len: 0,
         }
     }
 
@@ -43,20 +63,20 @@ impl Written {
         ensures bytes { result.now ≡ self.now }
         ensures few { length result.now ≤ space }
     {
-        self.bytes.as_slice()
+        &self.bytes[..self.len]
     }
 
     // One byte more, where there is room.
     pub fn push(&mut self, c: u8)
         ensures { self.new ≡ added self.old c }
     {
-        if !self.bytes.is_full() {
-            self.bytes.push(c);
+        if has_room(self.len) {
+            self.bytes[self.len] = c;
+            self.len += 1;
         }
     }
 
-    // The bytes of a text more, one by one: arrayvec's `try_extend_from_slice` would write none of a text that does not
-    // fit whole.
+    // The bytes of a text more, one by one: of a text that does not fit whole, the front is written.
     pub(crate) fn push_text(&mut self, text: &[u8])
         ensures { self.new ≡ added_all self.old text.now }
     {

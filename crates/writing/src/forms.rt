@@ -2,6 +2,7 @@
 ghost use Rattle.std.specs.Prelude.{◌-◌, ◌≡◌, [], ◌∷◌, get_or, map};
 ghost use Rattle.meaning.specs.Writing.{write};
 ghost use Rattle.shapes.specs.Table.{plain_form, field_of};
+ghost use Rattle.shapes.specs.Numbered.{form_at};
 ghost use Rattle.writing.specs.Written.{added_all};
 
 use crate::bytes::Written;
@@ -54,5 +55,12 @@ impl Written {
                 }
             }
         }
+    }
+
+    // The same of a field by the number of its form.
+    pub fn push_form(&mut self, form: u8, n: u32)
+        ensures { self.new ≡ added_all self.old (44 ∷ write (form_at form) n) }
+    {
+        self.push_field(Field::from(form), n);
     }
 }

@@ -7,4 +7,4 @@ mod forms;
 mod whole;
 
 pub use bytes::{SPACE, Written};
-pub use whole::write_line;
+pub use whole::{write_line, write_row};

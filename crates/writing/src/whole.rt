@@ -2,6 +2,7 @@
 ghost use Rattle.std.specs.Prelude.{◌≡◌};
 ghost use Rattle.meaning.specs.Writing.{written};
 ghost use Rattle.shapes.specs.Table.{row_of};
+ghost use Rattle.shapes.specs.Numbered.{shape_at};
 ghost use Rattle.writing.specs.Written.{written_as};
 
 use crate::bytes::Written;
@@ -20,4 +21,11 @@ pub fn write_line(shape: Shape, numbers: &[u32]) -> Written
         line.push_field(field, n);
     }
     line
+}
+
+// The same of a row by its number; past the table the shorter Q.
+pub fn write_row(shape: u8, numbers: &[u32]) -> Written
+    ensures { result ≡ written_as (written (shape_at shape) numbers.now) }
+{
+    write_line(Shape::from(shape), numbers)
 }

@@ -10,9 +10,9 @@ returns-then-self-clause-steps c =
     let none = passes_none c.args.self.now.line.now c.args.self.now.at c.if-self.true in (none, none)
 
 pub returns-clause-steps : goal.returns-clause-steps
-returns-clause-steps c = passes c.args.self.now.line.now c.args.self.now.at (omega arith) c.cut-self.ensures
+returns-clause-steps c = passes c.args.self.now.line.now c.args.self.now.at (omega arith) c.cut-end.ensures
 
 pub returns-clause-goes : goal.returns-clause-goes
 returns-clause-goes c =
-    let step = passes c.args.self.now.line.now c.args.self.now.at (omega arith) c.cut-self.ensures in
+    let step = passes c.args.self.now.line.now c.args.self.now.at (omega arith) c.cut-end.ensures in
     let shorter = ap length step in search rules

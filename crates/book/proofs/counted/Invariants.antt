@@ -1,9 +1,9 @@
--- `book::count` meets its contract: the places before the iterator's are counted. Assumes nothing.
+-- `book::counted` meets its contract: the places before the iterator's are counted. Assumes nothing.
 use Prim.Native.Nat.{◌≤◌}
 use mathlib.Core.Path.{◌≡◌}
 use Rattle.tables.specs.Count.{count_below}
 use Rattle.tables.specs.Table.{hit}
-use Rattle.book.proofs.count.Given as goal
+use Rattle.book.proofs.counted.Given as goal
 
 abbrev pub invariant-loop-k : goal.invariant-loop-k
 invariant-loop-k g l =
