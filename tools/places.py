@@ -190,10 +190,14 @@ use Rattle.stores.proofs.{t.struct}Storing.{{{t.name}_put}}
         {" ".join(made)}
 """)
     else:
-        stored_answer(t.struct, """use Rattle.tables.specs.Bytes.{digits, bytes_of}
+        # the edit of a type leaves one number out: a fact of a call that is gone cannot be named
+        by_name = t.name != "type"
+        uses = "" if by_name else "use Rattle.std.proofs.Common.{◌∙◌, rules}\n"
+        proof = f"rw (c.put_numbers.ensures, {', '.join(made)})" if by_name else "c.put_numbers.ensures ∙ search rules"
+        stored_answer(t.struct, uses + """use Rattle.tables.specs.Bytes.{digits, bytes_of}
 use Rattle.stores.specs.Numbers.{bytes, all_bytes}
 """, f"""unfolding bytes all_bytes bytes_of digits
-returns c = rw (c.put_numbers.ensures, {", ".join(made)})
+returns c = {proof}
 """)
 
 # ---- reading a long place: the search finds this alone, but gives up on a wrong reading at a limit; so the calls are

@@ -180,14 +180,15 @@ pub place_lost : (places n m : ℕ) → places ≡ n → n ≡ m → None ≡ pl
 place_lost places n m e f = place_out places m (omega arith)
 
 -- what `find` answers of the places from place k on, up to which none is passed that p holds at
-pub found_next : (p : ℕ → Bool) (places i k : ℕ) (r : Option ℕ) → i ≤ k → Passed p i k
-    → MatchOption r ((j : ℕ) → k ≤ j → j < places → p j ≡ false) (λ j. (k ≤ j) × (j < places) × (p j ≡ true) × ((l : ℕ) → k ≤ l → l < j → p l ≡ false))
+pub found_next : (p : ℕ → Bool) (places i k end : ℕ) (r : Option ℕ) → end ≡ places → i ≤ k → Passed p i k
+    → MatchOption r ((j : ℕ) → k ≤ j → j < end → p j ≡ false) (λ j. (k ≤ j) × (j < end) × (p j ≡ true) × ((l : ℕ) → k ≤ l → l < j → p l ≡ false))
     → r ≡ place_if places (next p places i)
-found_next p places i k None l f m =
-    place_out places (next p places i) (omega (arith, next_none p places i places (omega arith) (passed_on p i k places f m)))
-found_next p places i k (Some j) l f m =
-    place_at places j m.1
-    ∙ ap (place_if places) (next_at p places i j (omega (arith, l, m.0)) m.1 (passed_on p i k j f m.3) m.2)
+found_next p places i k end None e l f m =
+    place_out places (next p places i) (omega (arith, next_none p places i end (omega arith) (passed_on p i k end f m)))
+found_next p places i k end (Some j) e l f m =
+    let h : j < places = omega (arith, m.1, e) in
+    place_at places j h
+    ∙ ap (place_if places) (next_at p places i j (omega (arith, l, m.0)) h (passed_on p i k j f m.3) m.2)
 
 -- a place that is found from place i on is none before
 pub place_from : (p : ℕ → Bool) (places i k : ℕ) → Some k ≡ place_if places (next p places i) → (i ≤ k) × (k < places)

@@ -5,7 +5,10 @@ use mathlib.Core.Bool.{Bool, true, ◌&&◌}
 use mathlib.Core.List.{List, [], ◌∷◌}
 use Rattle.std.specs.Cmp.Lexicographic.{pointwise}
 use lib.Dec.{eqb}
+use borrow.Author.Tests.{eq-eqb, ne_eqb}
 use Rattle.meaning.specs.Records as M
+use Rattle.meaning.specs.Records.{validation_hold, party_hold}
+use Rattle.meaning.specs.Pending.{held_since}
 use Rattle.meaning.specs.Text.{same}
 use Rattle.meaning.specs.Keys.{is_rule, is_row, is_kept}
 use Rattle.places.specs.declared.Row.{Row}
@@ -74,3 +77,13 @@ pub instruction_named : (q : InstructionAsk) (t : Kept) (reference : ℕ) → q 
     → eqb t.reference reference ≡ instruction_meets q (instruction_of t)
 unfolding instruction_meets is_kept instruction_of
 instruction_named q t reference e = rw e
+
+-- ---- since when a hold is on
+
+pub since_party : (k : M.Kept) (hold : ℕ) → (hold ≡ validation_hold → ⊥) → hold ≡ party_hold → k.holding ≡ held_since k hold
+unfolding held_since
+since_party k hold e f = rw (ne_eqb hold validation_hold e, eq-eqb hold party_hold f)
+
+pub since_neither : (k : M.Kept) (hold : ℕ) → (hold ≡ validation_hold → ⊥) → (hold ≡ party_hold → ⊥) → 0 ≡ held_since k hold
+unfolding held_since
+since_neither k hold e f = rw (ne_eqb hold validation_hold e, ne_eqb hold party_hold f)

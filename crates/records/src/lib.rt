@@ -437,9 +437,11 @@ impl Record for Period {
 pub fn held_since(t: Kept, hold: u8) -> u32
     ensures { result ≡ held_since (instruction_of t) hold }
 {
-    if hold == RestrictionType::VALIDATION_HOLD {
+    let validation = hold == RestrictionType::VALIDATION_HOLD;
+    let party = hold == RestrictionType::PARTY_HOLD;
+    if validation {
         t.validating
-    } else if hold == RestrictionType::PARTY_HOLD {
+    } else if party {
         t.holding
     } else {
         0

@@ -12,8 +12,8 @@ find-requires-clause-callable g c = serves_from_Range (λ x q k. search rules) (
 pub returns : goal.returns
 returns g c =
     let p : ℕ → Bool = owned c.args.b.now g.P.Place.START g.P.Place.WIDTH c.args.a in
-    found_next p g.P.Place.PLACES c.args.i _ c.find.result c.pass-from.ensures.0 c.pass-from.ensures.1
-    (rw (c.PLACES.ensures) at (first_from_Range _ _ _ c.find.result (λ x. p x ≡ true) (λ x. p x ≡ false) c.find.ensures.ran (λ x q k. search (rules, tests)) (λ x q k. search (rules, tests))))
+    found_next p g.P.Place.PLACES c.args.i _ _ c.find.result c.PLACES.ensures c.pass-from.ensures.0 c.pass-from.ensures.1
+    (first_from_Range _ _ _ c.find.result (λ x. p x ≡ true) (λ x. p x ≡ false) c.find.ensures.ran (λ x q k. search (rules, tests)) (λ x q k. search (rules, tests)))
     ∙ ap (place_if g.P.Place.PLACES)
     (next_of g.P.Place.csd g.P.Place.at g.P.Place.from g.P.Place.widths _ _ g.met.P.Place.reads g.met.P.Place.first
     c.args.b.now c.args.a g.P.Place.PLACES c.args.i)
