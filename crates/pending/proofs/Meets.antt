@@ -26,7 +26,8 @@ use Rattle.pending.specs.OnBytes.{asking_at, fresh_at, kept_with, kept_by, kept_
 
 -- ---- what is left, with its days and types
 
-kept_said : (k : Kept) (day : ℕ) (v : Verdict) (exempt : ℕ → Bool) → Remembering k
+-- of an instruction that is kept, and of one that would be but for a rejection
+pub kept_said : (k : Kept) (day : ℕ) (v : Verdict) (exempt : ℕ → Bool) → Remembering k
     → instruction_of (kept_by k day v exempt) ≡ met v exempt day (instruction_of k)
 unfolding kept_by met instruction_of
 kept_said k day v exempt r = rw (types_put k.remembered exempt r.long r.clear)
@@ -114,6 +115,12 @@ unfolding released_at released instruction_of
 released_right hold k = refl
 
 -- ---- what the functions return
+
+-- a rejected instruction, whatever types are exempted: Err is what it would be left as
+pub rejected_left : (k : Kept) (day : ℕ) (v : Verdict) (exempt : ℕ → Bool) (t : Bool) → t ≡ rejected v → t ≡ true
+    → Err (kept_by k day v exempt) ≡ met_by k day v exempt
+unfolding met_by
+rejected_left k day v exempt t e h = rw (sym e ∙ h)
 
 module _ (k : Kept) (day validating holding : ℕ) (v : Verdict) (marks remembered : List ℕ) (t : Bool)
     (types : remembered ≡ with_types k.remembered (marked marks)) (held : holding ≡ since day k.holding v.party)
