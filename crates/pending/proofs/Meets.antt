@@ -126,8 +126,8 @@ module _ (k : Kept) (day validating holding : ℕ) (v : Verdict) (marks remember
     (types : remembered ≡ with_types k.remembered (marked marks)) (held : holding ≡ since day k.holding v.party)
     (validated : validating ≡ since day k.validating v.validation) (e : t ≡ rejected v) where
   pub after_rejected : t ≡ true → Err (kept_with k validating holding remembered) ≡ met_by k day v (marked marks)
-  unfolding met_by kept_by
-  after_rejected h = rw (sym e ∙ h, types, held, validated)
+  unfolding kept_by
+  after_rejected h = rw (types, held, validated) (rejected_left k day v (marked marks) t e h)
 
   pub after_kept : t ≡ false → Ok (kept_with k validating holding remembered) ≡ met_by k day v (marked marks)
   unfolding met_by kept_by
